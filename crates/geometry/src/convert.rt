@@ -1,104 +1,27 @@
-// Counts within their limits, and the conversions between block numbers, stripes and members.
+// The conversions between block numbers, stripes with positions, and members.
 ghost use mathlib.Core.Path.{_≡_};
-ghost use mathlib.Core.Bool.{Bool, true, false};
-ghost use Prim.Native.Nat.{ℕ, _≤_, _<_, _-_, _*_, _+_};
-ghost use Rattle.std.specs.Options.{Cases as BySome, isSome};
-ghost use Rattle.std.specs.Results.{Cases as ByOk, isOk};
-ghost use Rattle.geometry.specs.Counts.{counted, members-of, blocks-of, members-allowed, counts-allowed};
+ghost use Rattle.geometry.specs.Counts.{members-of, blocks-of};
 ghost use Rattle.geometry.specs.Places.{located, numbered, data-blocks, stripes as stripe-count, position-address as address-of-position, parity-address as address-of-parity, data-address as address-of-data, content-at, address-of, stripe-of-block, block-number, Undone};
 ghost use Rattle.geometry.specs.declared.place.Content.the-variants.{Data, Parity as ParityOf};
-
 use crate::layout::Layout;
 use crate::place::Address;
 use crate::place::Content;
 use crate::place::Location;
-use crate::shape::LEAST_MEMBERS;
-use crate::shape::MOST_BLOCKS;
-use crate::shape::MOST_MEMBERS;
-use crate::shape::MemberCount;
-use crate::shape::OutOfLimits;
 use crate::shape::Shape;
 
-impl MemberCount {
-    /// A number of members, if it is 3 to 8.
-    pub fn new(count: usize) -> Option<MemberCount>
-        ensures allowed { λ r. ⌜ isSome r ≡ members-allowed count ⌝ }
-        ensures value { λ r. ⌜ BySome r (members-allowed count ≡ false) (λ c. counted c ≡ count) ⌝ }
-    {
-        if count < LEAST_MEMBERS {
-            return None;
-        }
-        if count > MOST_MEMBERS {
-            return None;
-        }
-        Some(MemberCount { count })
-    }
-
-    /// The number.
-    pub fn get(self) -> usize
-        ensures value { λ r. ⌜ r ≡ counted self ⌝ }
-        ensures bounds { λ r. ⌜ (3 ≤ r) × (r ≤ 8) ⌝ }
-    {
-        self.count
-    }
-
-    /// How many data blocks a stripe has: one less than there are members.
-    pub fn positions(self) -> usize
-        ensures { λ r. ⌜ r ≡ counted self - 1 ⌝ }
-    {
-        self.count - 1
-    }
-}
-
 impl Shape {
-    /// Counts of members and of blocks a member, if they are within the limits.
-    pub fn new(members: usize, blocks: usize) -> Result<Shape, OutOfLimits>
-        ensures allowed { λ r. ⌜ isOk r ≡ counts-allowed members blocks ⌝ }
-        ensures value { λ r. ⌜ ByOk r (λ a. (members-of a ≡ members) × (blocks-of a ≡ blocks)) (λ e. (e .members ≡ members) × (e .blocks ≡ blocks)) ⌝ }
-    {
-        let refused = OutOfLimits { members, blocks };
-        let Some(count) = MemberCount::new(members) else {
-            return Err(refused);
-        };
-        if blocks < 1 {
-            return Err(refused);
-        }
-        if blocks > MOST_BLOCKS {
-            return Err(refused);
-        }
-        Ok(Shape {
-            members: count,
-            blocks,
-        })
-    }
-
-    /// How many members.
-    pub fn members(self) -> MemberCount
-        ensures { λ r. ⌜ counted r ≡ members-of self ⌝ }
-    {
-        self.members
-    }
-
-    /// How many blocks each member has.
-    pub fn blocks(self) -> usize
-        ensures value { λ r. ⌜ r ≡ blocks-of self ⌝ }
-        ensures bounds { λ r. ⌜ (1 ≤ r) × (r ≤ 16777216) ⌝ }
-    {
-        self.blocks
-    }
-
     /// How many stripes the array has.
     pub fn stripes(self) -> usize
         ensures { λ r. ⌜ r ≡ stripe-count (blocks-of self) ⌝ }
     {
-        self.blocks
+        self.blocks()
     }
 
     /// How many blocks of data the array has.
     pub fn data_blocks(self) -> usize
         ensures { λ r. ⌜ r ≡ data-blocks (members-of self) (blocks-of self) ⌝ }
     {
-        (self.members.count - 1) * self.blocks
+        self.members.positions() * self.stripes()
     }
 
     /// The stripe and the position of a block, or None where there is no such block.
@@ -177,7 +100,7 @@ impl Shape {
         ensures undone { λ r. ⌜ Undone (address-of (L·Layout .arrangement) (members-of self) (blocks-of self) (stripe-of-block (at .block))) at r ⌝ }
     {
         let stripe = at.block;
-        if at.member >= self.members.count {
+        if at.member >= self.members.get() {
             return None;
         }
         if stripe >= self.stripes() {

@@ -3,7 +3,6 @@ ghost use mathlib.Core.Path.{_≡_};
 ghost use Prim.Native.Nat.{ℕ, _≤_, _<_, _-_};
 ghost use Rattle.geometry.specs.Counts.{counted};
 ghost use Rattle.geometry.specs.Layouts.{Arrangement, Lawful, member-at, position-at, rising, falling, restarted, restarted-back, continued, continued-back, right-asymmetric, left-asymmetric, left-symmetric};
-
 use crate::shape::MemberCount;
 
 /// A layout of RAID-5. Its meaning is the arrangement of each stripe over each number of members,
@@ -28,15 +27,15 @@ pub trait Layout {
 }
 
 /// RAID level qualifier 0: rotating parity 0 with data restart.
-#[derive(Clone, Copy, PartialEq, Eq, Debug)]
+#[derive(Clone, Copy)]
 pub struct RightAsymmetric;
 
 /// RAID level qualifier 2: rotating parity N with data restart.
-#[derive(Clone, Copy, PartialEq, Eq, Debug)]
+#[derive(Clone, Copy)]
 pub struct LeftAsymmetric;
 
 /// RAID level qualifier 3: rotating parity N with data continuation.
-#[derive(Clone, Copy, PartialEq, Eq, Debug)]
+#[derive(Clone, Copy)]
 pub struct LeftSymmetric;
 
 // Parity that moves up by one member with each stripe.

@@ -1,11 +1,13 @@
 -- What the parity functions answer. Assumes nothing.
 use mathlib.Core.Path.{_≡_}
-use mathlib.Core.Bool.{cond, _&&_}
+use mathlib.Core.Bool.{Bool, cond, _&&_}
 use mathlib.Core.List.{List, []}
-use Prim.Native.Nat.{ℕ, _<_}
+use Prim.Native.Nat.{ℕ, _<_, _/_, _%_}
 use lib.Dec.{leb, eqb}
 use lib.ListN.{length, getD}
+use Rattle.std.specs.Orderings.{When}
 use Rattle.std.specs.Results as results
+use Rattle.std.specs.Vectors.{chunked}
 use Rattle.std.specs.declared.option.Option.{Option}
 use Rattle.std.specs.declared.option.Option.the-variants.{Some, None}
 use Rattle.std.specs.declared.result.Result.{Result}
@@ -31,3 +33,11 @@ module _ {U : Type 0} where
       results.Cases r
       (λ _. (blocks : List (List ℕ)) (p i : ℕ) → Whole blocks → p < length blocks → OthersGive blocks p → i < length blocks → others ≡ without i blocks → new ≡ getD blocks i [])
       (λ _. Unit {0})
+
+-- The same of blocks that lie one after the other: whole ones, of which the checks name nothing.
+abbrev pub FlatFits : List ℕ → List ℕ → Type 0
+FlatFits bytes old = (length bytes % 512 ≡ 0) × (checks (length bytes / 512) (length old) ≡ None)
+
+abbrev pub FlatGives : List ℕ → List ℕ → Bool → List ℕ → Type 0
+FlatGives bytes old r new =
+    When r (FlatFits bytes old × (new ≡ parity-of (chunked 512 (length bytes / 512) bytes))) ((FlatFits bytes old → ⊥) × (new ≡ old))

@@ -4,7 +4,7 @@ ghost use Prim.Native.Nat.{ℕ, _+_, _*_, _<_, _≤_};
 ghost use lib.ListN.{length, replicate};
 ghost use lib.Lanes.{foldL, chunk};
 ghost use Rattle.parity.specs.Xor.{xored, parity-of};
-ghost use Rattle.parity.specs.Refusals.{checks, Gives, Regains};
+ghost use Rattle.parity.specs.Refusals.{checks, Gives, Regains, FlatGives};
 ghost use Rattle.parity.specs.Laws.{Laws};
 
 pub mod refusal;
@@ -86,6 +86,19 @@ pub fn missing_block(others: &[[u8; 512]], into: &mut [u8]) -> Result<(), Refusa
     }
     sum_into(others, into);
     Ok(())
+}
+
+/// The parity of blocks that lie one after the other, for callers in C. Answers whether it was worked out: there are 2 to 7
+/// whole blocks and the buffer has the length of one. Otherwise the buffer is as it was.
+#[unsafe(no_mangle)]
+pub extern "C" fn dustercyan_parity(blocks: &[u8], into: &mut [u8]) -> bool
+    ensures { λ r. ⌜ FlatGives (now (blocks .entry)) (now (into .entry)) r (now (into .exit)) ⌝ }
+{
+    let (whole, rest) = blocks.as_chunks::<512>();
+    if rest.len() != 0 {
+        return false;
+    }
+    parity(whole, into).is_ok()
 }
 
 /// The laws of parity, proved: parity of zeros is zeros, each byte is the exclusive or of the bytes at its offset, and

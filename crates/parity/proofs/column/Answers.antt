@@ -20,4 +20,5 @@ loop-block-again c =
 pub returns : need.returns
 returns c = record {
   value = sym (at-drop-all {X = List ℕ} (foldL (λ a block. xored a (chunk (c .args .at) 64 block)) (c .loop-block .sum)) (c .args .blocks .now) (c .loop-block .block-index) (c .loop-block-test .left)) ∙ c .loop-block .inv;
-  len = search needs }
+  len = search needs;
+}

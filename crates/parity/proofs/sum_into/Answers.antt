@@ -9,9 +9,10 @@ use Rattle.parity.proofs.Columns.{parity-more, length-parity}
 use Rattle.parity.proofs.sum_into.Needs as need
 
 pub loop-c-again : need.loop-c-again
-loop-c-again c =
-    (omega (arith, length-putChunk (64 * c .loop-c .c) (c .loop-c .into) (c .column .result)),
-     parity-more (64 * c .loop-c .c) (64 * (c .loop-c .c + 1)) (c .loop-c .into) (c .column .result) (c .args .blocks .now) (c .loop-c .inv .0) (c .column .ensures .len) (omega arith) (omega arith) (c .loop-c .inv .1) (c .column .ensures .value))
+loop-c-again c = (
+  omega (arith, length-putChunk (64 * c .loop-c .c) (c .loop-c .into) (c .column .result)),
+  parity-more (64 * c .loop-c .c) (64 * (c .loop-c .c + 1)) (c .loop-c .into) (c .column .result) (c .args .blocks .now) (c .loop-c .inv .0) (c .column .ensures .len) (omega arith) (omega arith) (c .loop-c .inv .1) (c .column .ensures .value),
+)
 
 pub returns : need.returns
 returns c =

@@ -1,0 +1,4 @@
+pub mod Writing
+pub mod Stripes
+pub mod Steps
+pub mod RoundTrip

@@ -1,0 +1,4 @@
+pub mod Rising
+pub mod Stripes
+pub mod Named
+pub mod Union

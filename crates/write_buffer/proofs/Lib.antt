@@ -1,0 +1,4 @@
+pub mod Replays
+pub mod Newest
+pub mod Passed
+pub mod Orders

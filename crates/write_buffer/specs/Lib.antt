@@ -1,0 +1,3 @@
+pub mod Replay
+pub mod Passing
+pub mod Buffer
