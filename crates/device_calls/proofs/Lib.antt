@@ -1,0 +1,5 @@
+pub mod Append
+pub mod Single
+pub mod Left
+pub mod Properties
+pub mod Proved

@@ -1,0 +1,10 @@
+pub mod Rows
+pub mod Turns
+pub mod Parts
+pub mod Destaging
+pub mod Resyncing
+pub mod Scanning
+pub mod Without
+pub mod Sums
+pub mod Recovering
+pub mod Addresses
