@@ -1,0 +1,10 @@
+pub mod Once
+pub mod Lookups
+pub mod Puts
+pub mod Counts
+pub mod Maps
+pub mod Exchanges
+pub mod Places
+pub mod Frees
+pub mod Lowest
+pub mod Copies
