@@ -63,10 +63,10 @@ fn first_refusal(count: usize, len: usize) -> Option<Refusal>
     None
 }
 
-/// Writes the parity of a stripe's data blocks: each byte is the exclusive or of the data bytes at that offset.
-/// A refusal leaves the buffer as it was.
-pub fn parity(blocks: &[[u8; 512]], into: &mut [u8]) -> Result<(), Refusal>
-    ensures { λ r. ⌜ Gives (now (blocks .entry)) (now (into .entry)) r (now (into .exit)) ⌝ }
+// Checks, and then the exclusive or of the blocks.
+fn checked_sum(blocks: &[[u8; 512]], into: &mut [u8]) -> Result<(), Refusal>
+    ensures gives { λ r. ⌜ Gives (now (blocks .entry)) (now (into .entry)) r (now (into .exit)) ⌝ }
+    ensures regains { λ r. ⌜ Regains (now (blocks .entry)) r (now (into .exit)) ⌝ }
 {
     if let Some(e) = first_refusal(blocks.len(), into.len()) {
         return Err(e);
@@ -75,17 +75,21 @@ pub fn parity(blocks: &[[u8; 512]], into: &mut [u8]) -> Result<(), Refusal>
     Ok(())
 }
 
+/// Writes the parity of a stripe's data blocks: each byte is the exclusive or of the data bytes at that offset.
+/// A refusal leaves the buffer as it was.
+pub fn parity(blocks: &[[u8; 512]], into: &mut [u8]) -> Result<(), Refusal>
+    ensures { λ r. ⌜ Gives (now (blocks .entry)) (now (into .entry)) r (now (into .exit)) ⌝ }
+{
+    checked_sum(blocks, into)
+}
+
 /// Writes the one block of a stripe that is missing, from all the others, parity included, in any order.
 /// A refusal leaves the buffer as it was.
 pub fn missing_block(others: &[[u8; 512]], into: &mut [u8]) -> Result<(), Refusal>
     ensures gives { λ r. ⌜ Gives (now (others .entry)) (now (into .entry)) r (now (into .exit)) ⌝ }
     ensures regains { λ r. ⌜ Regains (now (others .entry)) r (now (into .exit)) ⌝ }
 {
-    if let Some(e) = first_refusal(others.len(), into.len()) {
-        return Err(e);
-    }
-    sum_into(others, into);
-    Ok(())
+    checked_sum(others, into)
 }
 
 /// The parity of blocks that lie one after the other, for callers in C. Answers whether it was worked out: there are 2 to 7

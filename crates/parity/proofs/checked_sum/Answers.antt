@@ -2,7 +2,7 @@ use mathlib.Core.Path.{_∙_, sym, ap}
 use borrow.Author.Needs.{needs}
 use Rattle.parity.specs.Xor.{parity-of}
 use Rattle.parity.proofs.Others.{any-block}
-use Rattle.parity.proofs.missing_block.Needs as need
+use Rattle.parity.proofs.checked_sum.Needs as need
 
 pub returns : need.returns
 returns c = record {
