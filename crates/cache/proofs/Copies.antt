@@ -2,7 +2,7 @@
 use mathlib.Core.Path.{_≡_, refl, sym, ap, _∙_}
 use mathlib.Core.Bool.{Bool, true, false, cond}
 use mathlib.Core.List.{List, []}
-use mathlib.Core.Logic.{_⊎_, inl, inr, ⊎-elim}
+use mathlib.Core.Logic.{⊎-elim}
 use Prim.Native.Nat.{ℕ, _+_, _-_, _<_, _≤_}
 use native.Mathlib.Omega.{arith}
 use native.Mathlib.Decide.{ℕ-discrete}
@@ -14,8 +14,7 @@ use Rattle.std.proofs.shelf.Tests.{le-ltb, cases-lt}
 use Rattle.std.specs.Options.{isSome, valueOr}
 use Rattle.std.specs.declared.option.Option.{Option}
 use Rattle.std.specs.declared.option.Option.the-variants.{Some, None}
-use Rattle.geometry.specs.Places.{numbered, block-number}
-use Rattle.geometry.specs.declared.place.Location.{Location}
+use Rattle.geometry.specs.Places.{block-number}
 use Rattle.cache.specs.Contents.{Blocks}
 use Rattle.cache.specs.Stripes.{looked-up, by-position}
 

@@ -1,21 +1,20 @@
 -- How many slots a cache has, and the blocks in them. Assumes nothing.
-use mathlib.Core.Path.{_≡_, refl, sym, ap, subst, _∙_, fun-ext}
+use mathlib.Core.Path.{_≡_, refl, sym, ap, _∙_, fun-ext}
 use mathlib.Core.Bool.{Bool, true, false, cond, not, _&&_, _||_}
 use mathlib.Core.List.{List, [], _∷_}
-use Prim.Native.Nat.{ℕ, zero, suc, _+_, _<_, _≤_}
+use Prim.Native.Nat.{ℕ, _+_, _<_}
 use native.Mathlib.Omega.{arith}
 use lib.Dec.{eqb}
-use lib.ListN.{length, getD}
-use Rattle.std.proofs.shelf.Tests.{false≢true, and-from, eq-eqb, cases-bool, eqb-true, eqb-false}
+use lib.ListN.{length}
+use Rattle.std.proofs.shelf.Tests.{and-from, eq-eqb, eqb-true, eqb-false}
 use Rattle.std.specs.Options.{isSome}
 use Rattle.std.specs.Orderings.{When}
-use Rattle.std.specs.declared.option.Option.{Option}
 use Rattle.std.specs.declared.option.Option.the-variants.{Some, None}
 use Rattle.cache.specs.declared.slot.Owner.{Owner}
 use Rattle.cache.specs.declared.slot.Owner.the-variants.{Free, Buffering, Destaging}
 use Rattle.cache.specs.declared.slot.Slot.{Slot}
 use Rattle.cache.specs.Contents.{one-if, no-blocks}
-use Rattle.cache.specs.Slots.{same, holds, blocks, each-once, slot-count, contents-of}
+use Rattle.cache.specs.Slots.{same, blocks, each-once, slot-count, contents-of}
 use Rattle.cache.specs.Sharing.{member, distinct, Numbers, Shared}
 use Rattle.cache.proofs.Once.{Once, once-from}
 

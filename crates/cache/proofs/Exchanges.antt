@@ -1,17 +1,16 @@
 -- The caches after they changed places. Assumes nothing.
 use mathlib.Core.Path.{_≡_, refl, sym, ap, _∙_}
-use mathlib.Core.Bool.{Bool, true, false, cond, _&&_}
+use mathlib.Core.Bool.{true, cond, _&&_}
 use mathlib.Core.List.{List, [], _∷_, map}
-use Prim.Native.Nat.{ℕ, _+_}
+use Prim.Native.Nat.{ℕ}
 use native.Mathlib.Omega.{arith}
 use lib.Dec.{eqb}
 use lib.ListN.{length, length-map}
-use Rattle.std.specs.declared.option.Option.{Option}
-use Rattle.std.specs.declared.option.Option.the-variants.{Some, None}
+use Rattle.std.specs.declared.option.Option.the-variants.{Some}
 use Rattle.cache.specs.declared.slot.Owner.{Owner}
 use Rattle.cache.specs.declared.slot.Owner.the-variants.{Free, Buffering, Destaging}
 use Rattle.cache.specs.declared.slot.Slot.{Slot}
-use Rattle.cache.specs.Contents.{Contents, exchanged, one-if}
+use Rattle.cache.specs.Contents.{exchanged, one-if}
 use Rattle.cache.specs.Slots.{same, holds, blocks, each-once, slot-count, contents-of, other-owner, slot-exchanged}
 use Rattle.cache.proofs.Once.{Once, once-from, once-back, same-contents}
 

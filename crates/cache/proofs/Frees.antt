@@ -1,8 +1,7 @@
 -- The caches after a stripe of the destaging cache was freed. Assumes nothing.
-use mathlib.Core.Path.{_≡_, refl, sym, ap, subst, _∙_, fun-ext}
+use mathlib.Core.Path.{_≡_, refl, sym, ap, subst, _∙_}
 use mathlib.Core.Bool.{Bool, true, false, cond, _&&_}
 use mathlib.Core.List.{List, [], _∷_, map}
-use mathlib.Core.Logic.{_⊎_, inl, inr, ⊎-elim}
 use Prim.Native.Nat.{ℕ, zero, suc, _+_, _-_, _<_, _≤_}
 use native.Mathlib.Omega.{arith}
 use native.Mathlib.Decide.{ℕ-discrete}
@@ -17,11 +16,11 @@ use Rattle.geometry.specs.declared.place.Location.{Location}
 use Rattle.cache.specs.declared.slot.Owner.{Owner}
 use Rattle.cache.specs.declared.slot.Owner.the-variants.{Free, Buffering, Destaging}
 use Rattle.cache.specs.declared.slot.Slot.{Slot}
-use Rattle.cache.specs.Contents.{Blocks, Contents, no-blocks, one-if}
-use Rattle.cache.specs.Stripes.{stripe-of-block, is-number, in-stripe, HasStripe, looked-up, by-position, count-below, held-count, stripe-freed}
+use Rattle.cache.specs.Contents.{Blocks, no-blocks, one-if}
+use Rattle.cache.specs.Stripes.{is-number, in-stripe, HasStripe, looked-up, by-position, count-below, held-count, stripe-freed}
 use Rattle.cache.specs.Slots.{same, holds, blocks, each-once, slot-count, contents-of, owner-freed, slot-freed}
 use Rattle.cache.proofs.Once.{Once, once-from, once-back, same-contents}
-use Rattle.cache.proofs.Places.{number-from-place, place-from-number, none≢some, some-injective}
+use Rattle.cache.proofs.Places.{number-from-place, place-from-number, some-injective}
 
 -- one block more or less in a count of positions
 same-count : (w : ℕ) (p q : ℕ → Bool) → ((i : ℕ) → i < w → q i ≡ p i) → count-below w q ≡ count-below w p

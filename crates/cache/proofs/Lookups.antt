@@ -1,19 +1,16 @@
--- Looking through slots. Assumes nothing.
-use mathlib.Core.Path.{_≡_, refl, sym, ap, subst, _∙_}
-use mathlib.Core.Bool.{Bool, true, false, cond, _&&_}
+-- A block looked for slot by slot. Assumes nothing.
+use mathlib.Core.Path.{_≡_, refl, ap, _∙_}
+use mathlib.Core.Bool.{true, false, cond}
 use mathlib.Core.List.{List, [], _∷_, _++_}
-use Prim.Native.Nat.{ℕ, zero, suc, _+_, _<_, _≤_}
+use Prim.Native.Nat.{ℕ, zero, suc, _+_, _<_}
 use native.Mathlib.Omega.{arith}
-use native.Mathlib.Numerals.{add-one}
-use lib.ListN.{length, getD, take, drop}
+use lib.ListN.{length, getD, take}
 use Rattle.std.proofs.shelf.Lists.{take-more}
 use Rattle.std.specs.declared.option.Option.the-variants.{Some, None}
 use Rattle.cache.specs.declared.slot.Owner.{Owner}
 use Rattle.cache.specs.declared.slot.Slot.{Slot}
-use Rattle.cache.specs.Slots.{same, holds, blocks}
-
-some≢none : {x : List ℕ} → Some x ≡ None → ⊥
-some≢none p = let z : _≡_ {A = ℕ} 0 1 = cc in omega arith
+use Rattle.cache.proofs.Once.{some≢none}
+use Rattle.cache.specs.Slots.{holds, blocks}
 
 module _ (o : Owner) (k : ℕ) where
   pub blocks-push : (xs : List Slot) (e : Slot) → holds o k e ≡ false → blocks o xs k ≡ None → blocks o (xs ++ e ∷ []) k ≡ None

@@ -1,21 +1,21 @@
 -- A slot written over by a block that goes into the buffering cache. Assumes nothing.
-use mathlib.Core.Path.{_≡_, refl, sym, ap, subst, _∙_}
-use mathlib.Core.Bool.{Bool, true, false, cond, not, _&&_}
-use mathlib.Core.List.{List, [], _∷_, _++_}
-use mathlib.Core.Logic.{_⊎_, inl, inr, ⊎-elim}
-use Prim.Native.Nat.{ℕ, zero, suc, _+_, _-_, _<_, _≤_}
+use mathlib.Core.Path.{_≡_, refl, sym, ap, _∙_}
+use mathlib.Core.Bool.{true, false, cond, not, _&&_}
+use mathlib.Core.List.{List, [], _∷_}
+use mathlib.Core.Logic.{_⊎_, inl, inr}
+use Prim.Native.Nat.{ℕ, zero, suc, _+_, _<_}
 use native.Mathlib.Omega.{arith}
 use native.Mathlib.Decide.{ℕ-discrete}
 use lib.Dec.{eqb}
 use lib.ListN.{length, getD, take, drop, set}
-use Rattle.std.proofs.shelf.Tests.{true≢false, false≢true, and-parts, and-from, and-left, and-right, eqb-true, eq-eqb, ne-eqb, both-ways, cases-bool}
+use Rattle.std.proofs.shelf.Tests.{false≢true, and-parts, and-left, and-right, eqb-true, eq-eqb, ne-eqb}
 use Rattle.std.specs.Options.{isSome}
 use Rattle.std.specs.declared.option.Option.{Option}
 use Rattle.std.specs.declared.option.Option.the-variants.{Some, None}
 use Rattle.cache.specs.declared.slot.Owner.{Owner}
 use Rattle.cache.specs.declared.slot.Owner.the-variants.{Free, Buffering, Destaging}
 use Rattle.cache.specs.declared.slot.Slot.{Slot}
-use Rattle.cache.specs.Contents.{Contents, put-into, no-slot-for, one-if}
+use Rattle.cache.specs.Contents.{put-into, no-slot-for, one-if}
 use Rattle.cache.specs.Slots.{same, holds, blocks, each-once, slot-count, contents-of}
 use Rattle.cache.proofs.Lookups.{blocks-first}
 use Rattle.cache.proofs.Once.{some≢none, Once, once-from, once-back, same-contents}

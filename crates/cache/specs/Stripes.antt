@@ -9,7 +9,6 @@ use Rattle.std.specs.Options.{isSome, mapped, Cases}
 use Rattle.std.specs.declared.option.Option.{Option}
 use Rattle.std.specs.declared.option.Option.the-variants.{Some, None}
 use Rattle.geometry.specs.Places.{located, numbered}
-use Rattle.geometry.specs.declared.place.Location.{Location}
 use Rattle.cache.specs.Contents.{Blocks, Contents, one-if}
 
 -- The stripe of block k, where the array has that block.

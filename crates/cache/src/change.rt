@@ -2,7 +2,7 @@
 ghost use mathlib.Core.Path.{_≡_};
 ghost use mathlib.Core.List.{map};
 ghost use Rattle.geometry.specs.Counts.{members-of, blocks-of};
-ghost use Rattle.cache.specs.Stripes.{stripe-of-block, in-stripe};
+ghost use Rattle.cache.specs.Stripes.{in-stripe};
 ghost use Rattle.cache.specs.Slots.{other-owner, slot-exchanged, owner-freed, slot-freed};
 use crate::slot::Owner;
 use crate::slot::SLOTS;

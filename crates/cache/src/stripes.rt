@@ -1,9 +1,8 @@
 // The stripes of a cache.
 ghost use mathlib.Core.Path.{_≡_};
-ghost use Prim.Native.Nat.{ℕ, _≤_, _<_};
-ghost use lib.ListN.{take};
+ghost use Prim.Native.Nat.{_<_};
 ghost use Rattle.geometry.specs.Counts.{members-of, blocks-of};
-ghost use Rattle.cache.specs.Stripes.{stripe-of-block, HasStripe, Listed};
+ghost use Rattle.cache.specs.Stripes.{HasStripe, Listed};
 ghost use Rattle.cache.specs.Slots.{blocks};
 ghost use Rattle.cache.specs.Searches.{slot-stripe, LowestFrom, lower};
 ghost use Rattle.cache.specs.Meaning.{listed};

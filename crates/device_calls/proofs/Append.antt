@@ -63,3 +63,12 @@ for-each-stopped f (suc n) j s u e t h a b = split-last f n j s u e t a b (ℕ-d
 pub for-each-same : (f g : ℕ → List DeviceCall) (n : ℕ) → ((j : ℕ) → j < n → f j ≡ g j) → for-each f n ≡ for-each g n
 for-each-same f g zero h = refl
 for-each-same f g (suc n) h = ap (λ x. x ++ f n) (for-each-same f g n (λ j l. h j (omega arith))) ∙ ap (λ x. for-each g n ++ x) (h n (omega arith))
+
+-- the turn in which it stopped
+pub for-each-split : (f : ℕ → List DeviceCall) (n : ℕ) (s : Meaning) (e : Refusal) (t : Meaning) → Stopped (for-each f n) s e t → (i : ℕ) × (i < n) × (u : Meaning) × Completed (for-each f i) s u × Stopped (f i) u e t
+for-each-split f zero s e t h = elim h [ ]
+for-each-split f (suc n) s e t h =
+    ⊎-elim
+    (λ k. let r = for-each-split f n s e t k in let l = r .1 in (r .0, omega arith, r .2, r .3, r .4))
+    (λ k. (n, omega arith, k .0, k .1, k .2))
+    (stopped-split (for-each f n) (f n) s e t h)

@@ -33,6 +33,15 @@ impl<S: MemberStore> Fuse<S> {
         }
     }
 
+    /// Sets the fuse anew: lets `left` more stores and barriers act, or any number where there is no setting. A blown fuse stays blown.
+    pub fn set(&mut self, left: Option<usize>)
+        ensures left { λ _. ⌜ now (self .exit) .left ≡ left ⌝ }
+        ensures below { λ _. ⌜ now (self .exit) .below ≡ now (self .entry) .below ⌝ }
+        ensures blown { λ _. ⌜ now (self .exit) .blown ≡ now (self .entry) .blown ⌝ }
+    {
+        self.left = left;
+    }
+
     /// Gives the store below back.
     pub fn into_below(self) -> S
         ensures { λ r. ⌜ r ≡ self .below ⌝ }

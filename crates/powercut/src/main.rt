@@ -1,15 +1,14 @@
 // Cuts power in the middle of 24 stores to four members under a write buffer, and tells what stands after power-on.
-mod script;
 mod table;
 
+use cut_script::BLOCKS;
+use cut_script::MEMBERS;
 use fuse::Fuse;
 use fuse::FuseMembers;
 use member_store::BLOCK_BYTES;
 use member_store::MemberStore;
 use memory_store::MemoryMembers;
 use memory_store::memory::MemoryStore;
-use script::BLOCKS;
-use script::MEMBERS;
 use std::alloc::Global;
 use std::env;
 use std::error::AnyError;
@@ -44,9 +43,9 @@ fn cut(heap: Global, left: usize) -> Result<Report, AnyError> {
         return Err("no memory for the write buffer".into());
     };
     let mut store = buffer;
-    let progress = script::run(&mut store);
+    let progress = cut_script::run(&mut store);
     store.power_on();
-    match script::standing(&mut store) {
+    match cut_script::standing(&mut store) {
         Ok(stands) => Ok(Report { progress, stands }),
         Err(_) => Err("a read was refused".into()),
     }

@@ -1,12 +1,12 @@
 // What the program tells: a line for each block, and which stores survived.
-use super::script::BLOCKS;
-use super::script::FIRST_BARRIER;
-use super::script::MEMBERS;
-use super::script::Progress;
-use super::script::SECOND_BARRIER;
-use super::script::STORES;
-use super::script::last_store;
-use super::script::place_of;
+use cut_script::BLOCKS;
+use cut_script::FIRST_BARRIER;
+use cut_script::MEMBERS;
+use cut_script::Progress;
+use cut_script::SECOND_BARRIER;
+use cut_script::STORES;
+use cut_script::last_store;
+use cut_script::place_of;
 use member_store::refusal::Place;
 use member_store::refusal::PlacePartialEq;
 use member_store::text::PlaceDisplay;

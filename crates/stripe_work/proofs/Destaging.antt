@@ -3,23 +3,29 @@ use mathlib.Core.Path.{_≡_, refl, sym, ap, subst, _∙_}
 use mathlib.Core.Bool.{true}
 use mathlib.Core.List.{List, [], _∷_, _++_}
 use mathlib.Core.Logic.{_⊎_, inl, inr, ⊎-elim}
-use Prim.Native.Nat.{ℕ, zero, suc, _+_, _<_, _≤_}
+use Prim.Native.Nat.{ℕ, zero, suc, _+_, _-_, _<_, _≤_}
 use native.Mathlib.Omega.{arith}
 use native.Mathlib.Decide.{ℕ-discrete}
 use Rattle.std.specs.Results as results
+use Rattle.std.proofs.shelf.Results.{cases-weaker}
 use Rattle.std.specs.declared.result.Result.{Result}
 use Rattle.std.specs.declared.result.Result.the-variants.{Ok, Err}
+use Rattle.geometry.specs.Layouts.{Arrangement}
 use Rattle.parity.specs.Xor.{parity-of}
 use Rattle.member_store.specs.Meaning.{Meaning, current, HasBlock}
 use Rattle.member_store.specs.declared.refusal.Refusal.{Refusal}
 use Rattle.device_calls.specs.Lists.{DeviceCall, read, store, Completed, Stopped, Performs, for-each}
-use Rattle.device_calls.specs.Effects.{Every, InRange, Spares, Reading, CutShort}
-use Rattle.device_calls.proofs.Append.{completed-then, completed-split, stopped-first, stopped-then, performs-then}
+use Rattle.device_calls.specs.Effects.{Every, InRange, Spares, Reading, Gains, CutShort}
+use Rattle.device_calls.proofs.Append.{for-each-same, completed-then, completed-split, stopped-first, stopped-then, performs-then}
 use Rattle.device_calls.proofs.Properties.{every-then, every-first, every-second, every-turn}
 use Rattle.device_calls.proofs.Left.{still-has, completed-counts, completed-range, completed-spares, completed-gains, completed-reading, cut-short, cut-weaker}
-use Rattle.stripe_work.specs.Stripe.{Stripe, data-at, parity-at, InStore}
-use Rattle.stripe_work.specs.Work.{CachedBlocks, merged, merged-data, uncached-read, cached-store, data-reads, data-stores, parity-store, destage-calls}
+use Rattle.stripe_work.specs.Stripe.{Stripe, stripe-at, data-at, parity-at, InStore}
+use Rattle.stripe_work.specs.Work.{CachedBlocks, or-else, merged, merged-data, uncached-read, cached-store, data-reads, data-stores, parity-store, destage-calls}
+use Rattle.stripe_work.specs.Answers.{stripe-check, Answers, Fails, Unfinished}
 use Rattle.stripe_work.specs.Outcomes.{Destaged, OthersSpared}
+use Rattle.stripe_work.specs.Promises.{Destages}
+use Rattle.stripe_work.specs.declared.refusal.StripeRefusal.{StripeRefusal}
+use Rattle.stripe_work.specs.declared.refusal.StripeRefusal.the-variants.{NoStripe, NoMember, NoBlock, Device}
 use Rattle.stripe_work.proofs.Rows.{listed-same}
 use Rattle.stripe_work.proofs.Turns.{moved}
 use Rattle.stripe_work.proofs.Parts.{Distinct, cached-spares, either-in-range, stored-here, reads-every, stores-every, others-spared}
@@ -123,3 +129,38 @@ module _ (w : Stripe) (c : CachedBlocks) (s : Meaning) where
 
   pub destage-cut-others : (e : Refusal) (t : Meaning) → Stopped (destage-calls w c s) s e t → OthersSpared w s t
   destage-cut-others e t d = others-spared w (destage-calls w c s) s t (destage-spares w c s) (cut-short (destage-calls w c s) s e t d .gains)
+
+-- cached blocks that are the same at the stripe's positions
+
+module _ (w : Stripe) (c k : CachedBlocks) (same : (j : ℕ) → j < w .positions → c j ≡ k j) where
+  same-merged : (s : Meaning) (j : ℕ) → j < w .positions → merged w c s j ≡ merged w k s j
+  same-merged s j l = ap (λ o. or-else o (data-at w s j)) (same j l)
+
+  same-calls : (s : Meaning) → destage-calls w c s ≡ destage-calls w k s
+  same-calls s =
+      ap (λ os. os ++ data-stores w c ++ parity-store w (parity-of (merged-data w c s)))
+      (for-each-same (λ j. uncached-read (c j) (w .member j) (w .block)) (λ j. uncached-read (k j) (w .member j) (w .block)) (w .positions) (λ j l. ap (λ o. uncached-read o (w .member j) (w .block)) (same j l)))
+      ∙ ap (λ os. data-reads w k ++ os ++ parity-store w (parity-of (merged-data w c s)))
+      (for-each-same (λ j. cached-store (c j) (w .member j) (w .block)) (λ j. cached-store (k j) (w .member j) (w .block)) (w .positions) (λ j l. ap (λ o. cached-store o (w .member j) (w .block)) (same j l)))
+      ∙ ap (λ xs. data-reads w k ++ data-stores w k ++ parity-store w (parity-of xs)) (listed-same (merged w c s) (merged w k s) (w .positions) (same-merged s))
+
+  same-destaged : (s t : Meaning) → Destaged w c s t → Destaged w k s t
+  same-destaged s t d = record {
+    on = d .on;
+    counts = d .counts;
+    right = d .right;
+    merges = λ j l. d .merges j l ∙ same-merged s j l;
+    elsewhere = d .elsewhere;
+    gains = subst (λ os. Gains os s t) (same-calls s) (d .gains);
+  }
+
+pub destages-same : {U : Type 0} (arrange : ℕ → ℕ → Arrangement) (m n i : ℕ) (c k : CachedBlocks) (s : Meaning) (r : Result U StripeRefusal) (t : Meaning)
+    → ((j : ℕ) → j < m - 1 → c j ≡ k j) → Destages arrange m n i c s r t → Destages arrange m n i k s r t
+destages-same arrange m n i c k s r t same d =
+    let w = stripe-at arrange m i in
+    let e = same-calls w c k same s in
+    record {
+      calls = subst (λ os. Answers (stripe-check n i) os s r t) e (d .calls);
+      leaves = cases-weaker r (d .leaves) (λ u h. same-destaged w c k same s t h) (λ f h. subst (λ os. Unfinished (InStore w s) os s f t) e h);
+      elsewhere = d .elsewhere;
+    }

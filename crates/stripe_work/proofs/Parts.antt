@@ -1,11 +1,14 @@
 -- Properties of the parts of the work on a stripe. Assumes nothing.
 use mathlib.Core.Path.{_≡_, refl, sym, ap, subst, _∙_}
+use mathlib.Core.Bool.{true}
 use mathlib.Core.List.{List, [], _∷_, _++_}
 use mathlib.Core.Logic.{_⊎_, inl, inr, ⊎-elim}
 use Prim.Native.Nat.{ℕ, zero, suc, _-_, _<_, _≤_}
 use lib.ListN.{getD, replicate}
 use Rattle.std.specs.declared.option.Option.{Option}
 use Rattle.std.specs.declared.option.Option.the-variants.{Some, None}
+use Rattle.std.proofs.shelf.Equals.{sameBytes-decides}
+use Rattle.parity.specs.Xor.{parity-of}
 use Rattle.geometry.specs.Layouts.{Arrangement, Lawful}
 use Rattle.member_store.specs.Meaning.{Meaning, current, HasBlock, Version}
 use Rattle.device_calls.specs.Lists.{DeviceCall, read, store, Completed, Stopped, for-each}
@@ -13,7 +16,7 @@ use Rattle.device_calls.specs.Effects.{Every, InRange, Spares, Reading, Gains}
 use Rattle.device_calls.proofs.Append.{for-each-same}
 use Rattle.device_calls.proofs.Properties.{every-then, every-for-each, written-not}
 use Rattle.device_calls.proofs.Left.{cut-short, cut-weaker}
-use Rattle.stripe_work.specs.Stripe.{Stripe, stripe-at, data-at, stripe-data, InStore}
+use Rattle.stripe_work.specs.Stripe.{Stripe, stripe-at, data-at, stripe-data, parity-at, parity-right, RightParity, InStore}
 use Rattle.stripe_work.specs.Work.{CachedBlocks, none-cached, cached-in, or-else, merged, merged-data, uncached-read, cached-store, data-reads, data-stores, parity-store, check-calls}
 use Rattle.stripe_work.specs.Outcomes.{OthersSpared}
 use Rattle.stripe_work.proofs.Rows.{listed-same}
@@ -25,6 +28,13 @@ pub record Distinct (w : Stripe) : Type 0 where
 
 pub distinct : (arrange : ℕ → ℕ → Arrangement) (m k : ℕ) → Lawful m (arrange m k) → Distinct (stripe-at arrange m k)
 distinct arrange m k h = record { apart = h .apart; differ = h .differ }
+
+-- the test of parity says just when it is right
+pub right-from-test : (w : Stripe) (s : Meaning) → parity-right w s ≡ true → RightParity w s
+right-from-test w s = sameBytes-decides (parity-at w s) (parity-of (stripe-data w s)) .0
+
+pub test-from-right : (w : Stripe) (s : Meaning) → RightParity w s → parity-right w s ≡ true
+test-from-right w s = sameBytes-decides (parity-at w s) (parity-of (stripe-data w s)) .1
 
 -- one position
 

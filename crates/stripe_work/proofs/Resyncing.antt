@@ -25,7 +25,7 @@ use Rattle.stripe_work.specs.Work.{none-cached, cached-in, data-reads, parity-
 use Rattle.stripe_work.specs.Outcomes.{Resynced, OthersSpared}
 use Rattle.stripe_work.proofs.Rows.{listed-same}
 use Rattle.stripe_work.proofs.Turns.{moved}
-use Rattle.stripe_work.proofs.Parts.{Distinct, check-every, check-reads, others-spared, same-reads, same-data, reads-every}
+use Rattle.stripe_work.proofs.Parts.{Distinct, right-from-test, check-every, check-reads, others-spared, same-reads, same-data, reads-every}
 
 -- the reads of a stripe of which nothing is cached, as an array of seven says
 abbrev first-reads : Stripe → List DeviceCall
@@ -131,7 +131,7 @@ module _ (w : Stripe) (apart : Distinct w) (s : Meaning) where
       record {
         on = completed-on (resync-calls w s) s t (was-on w s (a .0) (a .1)) d;
         counts = completed-counts (resync-calls w s) s t d;
-        right = fixed (parity-right w s) t (sameBytes-decides (parity-at w s) (parity-of (stripe-data w s)) .0) (λ j l. every-turn (InRange s) (λ i. read (w .member i) (w .block) ∷ []) (w .positions) j l reads .0) k;
+        right = fixed (parity-right w s) t (right-from-test w s) (λ j l. every-turn (InRange s) (λ i. read (w .member i) (w .block) ∷ []) (w .positions) j l reads .0) k;
         keeps = λ m b p ne. completed-spares (resync-calls w s) s t m b p (resync-spares w s m b ne) d;
         idle = λ q. idle-keeps (parity-right w s) t q k;
         gains = completed-gains (resync-calls w s) s t d;

@@ -1,5 +1,5 @@
 -- The device calls of the work on a stripe, in their order.
-use mathlib.Core.Bool.{cond}
+use mathlib.Core.Bool.{Bool, false, cond}
 use mathlib.Core.List.{List, [], _∷_, _++_}
 use Prim.Native.Nat.{ℕ, zero, suc, _+_}
 use lib.Dec.{eqb}
@@ -22,6 +22,10 @@ none-cached j = None
 
 abbrev pub cached-in : List (Option (List ℕ)) → CachedBlocks
 cached-in blocks j = getD blocks j None
+
+-- By rows, and which of them hold a cached block.
+abbrev pub held-in : List Bool → List (List ℕ) → CachedBlocks
+held-in held rows j = cond (getD held j false) (Some (getD rows j [])) None
 
 -- The cached block of a position, else the one that the stripe holds there; and all data so merged, by position.
 abbrev pub or-else : Option (List ℕ) → List ℕ → List ℕ

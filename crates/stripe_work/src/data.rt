@@ -8,7 +8,7 @@ ghost use Rattle.geometry.specs.Places.{stripes as stripe-count};
 ghost use Rattle.parity.specs.Xor.{parity-of};
 ghost use Rattle.device_calls.specs.Lists.{Performs};
 ghost use Rattle.stripe_work.specs.Stripe.{stripe-at};
-ghost use Rattle.stripe_work.specs.Work.{cached-in, data-reads, data-stores, merged-data};
+ghost use Rattle.stripe_work.specs.Work.{cached-in, held-in, data-reads, data-stores, merged-data};
 use crate::block::read_block;
 use crate::block::store_block;
 use crate::place::data_place;
@@ -23,6 +23,19 @@ pub const MOST_POSITIONS: usize = 7;
 
 /// The cached blocks of a stripe, by position.
 pub type CachedBlocks = [Option<[u8; 512]>; MOST_POSITIONS];
+
+/// The cached blocks of a stripe from rows by position, and which of them hold one.
+pub fn cached_blocks(held: &[bool; 8], rows: &[[u8; 512]; 8]) -> CachedBlocks
+    ensures { λ r. ⌜ ((j : ℕ) → j < 7 → cached-in r j ≡ held-in (now (held .entry)) (now (rows .entry)) j) ⌝ }
+{
+    let mut cached = [None; MOST_POSITIONS];
+    for position in 0..MOST_POSITIONS {
+        if held[position] {
+            cached[position] = Some(rows[position]);
+        }
+    }
+    cached
+}
 
 // Puts all data of a stripe into rows, by position: the cached blocks, and the others as they are read.
 pub(super) fn read_data<S: MemberStore, L: Layout>(

@@ -33,10 +33,8 @@ fn read_others<S: MemberStore>(
     let mut count = 0;
     for member in 0..members {
         if member != absent.member {
-            let at = Address {
-                member,
-                block: absent.block,
-            };
+            let mut at = absent;
+            at.member = member;
             if let Err(e) = read_block(store, at, &mut rows[count]) {
                 return Err(e);
             }

@@ -1,9 +1,9 @@
 use native.Mathlib.Omega.{arith}
-use mathlib.Core.Path.{_≡_, ap, _∙_}
+use mathlib.Core.Path.{ap}
 use Prim.Native.Nat.{_<_}
 use lib.ListN.{length, getD}
 use Rattle.cache.specs.Slots.{slot-exchanged}
-use Rattle.cache.proofs.Maps.{front, front-more, front-end}
+use Rattle.cache.proofs.Maps.{front-more, front-end}
 use Rattle.cache.proofs.change.exchange.Needs as need
 
 pub loop-i-again : need.loop-i-again

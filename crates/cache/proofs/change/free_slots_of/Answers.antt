@@ -1,11 +1,11 @@
 use native.Mathlib.Omega.{arith}
-use mathlib.Core.Path.{_≡_, ap, _∙_}
+use mathlib.Core.Path.{ap, _∙_}
 use Prim.Native.Nat.{_<_}
 use lib.ListN.{length, getD}
 use Rattle.geometry.specs.Counts.{members-of, blocks-of}
 use Rattle.cache.specs.Stripes.{in-stripe}
 use Rattle.cache.specs.Slots.{slot-freed, owner-freed}
-use Rattle.cache.proofs.Maps.{front, front-more, front-end}
+use Rattle.cache.proofs.Maps.{front-more, front-end}
 use Rattle.cache.proofs.change.free_slots_of.Needs as need
 
 pub loop-i-again : need.loop-i-again

@@ -1,14 +1,12 @@
 use native.Mathlib.Omega.{arith}
-use mathlib.Core.Path.{_≡_, _∙_}
 use mathlib.Core.List.{[]}
-use Prim.Native.Nat.{_<_}
-use lib.ListN.{length, getD}
+use lib.ListN.{getD}
 use Rattle.geometry.specs.Counts.{members-of, blocks-of}
 use Rattle.cache.specs.declared.slot.Owner.the-variants.{Free}
 use Rattle.cache.specs.declared.slot.Slot.{Slot}
 use Rattle.cache.specs.Stripes.{by-position}
 use Rattle.cache.specs.Slots.{blocks}
-use Rattle.cache.proofs.Copies.{Copied, copied-gap, copied-row, flags-all, rows-all}
+use Rattle.cache.proofs.Copies.{copied-gap, copied-row, flags-all, rows-all}
 use Rattle.cache.proofs.positions.copy_stripe.Needs as need
 use Rattle.cache.proofs.positions.copy_stripe.Needs.{in-Some, in-None}
 

@@ -1,12 +1,10 @@
 use native.Mathlib.Omega.{arith}
 use mathlib.Core.Path.{_≡_, sym, ap, _∙_}
-use mathlib.Core.Bool.{true, false}
-use Prim.Native.Nat.{ℕ, _<_, _+_, _≤_}
-use lib.ListN.{length, getD, drop}
+use Prim.Native.Nat.{_<_, _+_}
+use lib.ListN.{length, drop}
 use Rattle.std.proofs.shelf.Lists.{at-drop-more, at-drop-all}
-use Rattle.cache.specs.declared.slot.Owner.the-variants.{Free}
 use Rattle.cache.specs.Contents.{one-if}
-use Rattle.cache.specs.Slots.{same, slot-count}
+use Rattle.cache.specs.Slots.{slot-count}
 use Rattle.cache.proofs.search.slots_owned.Needs as need
 use Rattle.cache.proofs.search.slots_owned.Needs.{then-is, else-is}
 

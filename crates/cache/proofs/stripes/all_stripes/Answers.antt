@@ -1,13 +1,11 @@
-use borrow.Author.Needs.{needs}
 use native.Mathlib.Omega.{arith}
-use mathlib.Core.Path.{_≡_, refl, sym, ap, _∙_}
-use Prim.Native.Nat.{ℕ, _<_, _≤_, _+_}
-use lib.ListN.{length, length-set}
+use mathlib.Core.Path.{refl, _∙_}
+use lib.ListN.{length-set}
 use Rattle.geometry.specs.Counts.{members-of, blocks-of}
 use Rattle.cache.specs.Stripes.{HasStripe}
 use Rattle.cache.specs.Slots.{blocks}
 use Rattle.cache.specs.Searches.{slot-stripe}
-use Rattle.cache.proofs.Lowest.{above, above-length, above-falls, any-from-has, stripe-small, listing-none, listing-more, listing-all}
+use Rattle.cache.proofs.Lowest.{above-length, above-falls, any-from-has, stripe-small, listing-none, listing-more, listing-all}
 use Rattle.cache.proofs.stripes.all_stripes.Needs as need
 
 pub loop-stripe-holds : need.loop-stripe-holds

@@ -1,11 +1,9 @@
 use native.Mathlib.Omega.{arith}
-use mathlib.Core.Path.{_≡_, ap, _∙_}
-use mathlib.Core.List.{[]}
 use Prim.Native.Nat.{_<_}
-use lib.ListN.{length, getD}
+use lib.ListN.{length}
 use Rattle.geometry.specs.Counts.{members-of, blocks-of}
 use Rattle.cache.specs.Searches.{slot-stripe}
-use Rattle.cache.proofs.Lowest.{Any, lowest-turn, lowest-all}
+use Rattle.cache.proofs.Lowest.{lowest-turn, lowest-all}
 use Rattle.cache.proofs.stripes.next_stripe.Needs as need
 
 pub loop-i-again : need.loop-i-again

@@ -1,4 +1,3 @@
-use native.Mathlib.Omega.{arith}
 use Rattle.geometry.specs.Counts.{members-of, blocks-of}
 use Rattle.cache.specs.Stripes.{in-stripe}
 use Rattle.cache.proofs.Frees.{freed-contents, freed-length, freed-buffering, freed-destaging}

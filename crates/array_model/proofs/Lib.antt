@@ -1,0 +1,15 @@
+pub mod Places
+pub mod Inv
+pub mod Effects
+pub mod Barriers
+pub mod Destaging
+pub mod Resyncing
+pub mod Cases
+pub mod Opening
+pub mod Writing
+pub mod Flushing
+pub mod Shorts
+pub mod Kept
+pub mod Promised
+pub mod Working
+pub mod Witness

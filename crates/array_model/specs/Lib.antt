@@ -1,0 +1,9 @@
+pub mod Refusals
+pub mod Meaning
+pub mod Work
+pub mod Checks
+pub mod Calls
+pub mod Book
+pub mod Runs
+pub mod Promise
+pub mod Witness

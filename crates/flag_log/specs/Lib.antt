@@ -1,0 +1,3 @@
+pub mod Form
+pub mod Flag
+pub mod Own

@@ -1,0 +1,7 @@
+pub mod Highest
+pub mod Places
+pub mod Puts
+pub mod Making
+pub mod Changing
+pub mod Blanking
+pub mod Powering

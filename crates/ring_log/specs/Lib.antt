@@ -1,0 +1,5 @@
+pub mod Slots
+pub mod Highest
+pub mod Kept
+pub mod Ring
+pub mod Own
