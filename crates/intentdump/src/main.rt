@@ -51,9 +51,12 @@ fn kind_of(word: &str) -> Option<Kind> {
 fn asked(rt: &LibcRuntime) -> Result<Request, AnyError> {
     let mut words = env::args(rt)?;
     let _ = words.next();
-    let (Some(kind), Some(members), Some(blocks), None) =
-        (words.next(), words.next(), words.next(), words.next())
-    else {
+    let (Some(kind), Some(members), Some(blocks), None) = (
+        words.next(),
+        words.next(),
+        words.next(),
+        words.next(),
+    ) else {
         return Err(USAGE.into());
     };
     let Some(kind) = kind_of(kind.as_str()) else {
@@ -70,7 +73,13 @@ fn asked(rt: &LibcRuntime) -> Result<Request, AnyError> {
 }
 
 // Tells what one slot holds.
-fn tell_slot(rt: &LibcRuntime, store: &mut MemoryStore, member: usize, block: usize, slot: usize) -> Result<(), AnyError> {
+fn tell_slot(
+    rt: &LibcRuntime,
+    store: &mut MemoryStore,
+    member: usize,
+    block: usize,
+    slot: usize,
+) -> Result<(), AnyError> {
     let mut bytes = [0u8; BLOCK_BYTES];
     if store.read(member, block, &mut bytes).is_err() {
         return Err("a slot cannot be read".into());

@@ -1,0 +1,11 @@
+pub mod Verdicts
+pub mod Opening
+pub mod Formatting
+pub mod Resyncing
+pub mod Blocks
+pub mod Kept
+pub mod Reading
+pub mod ShortReading
+pub mod Safety
+pub mod Destaging
+pub mod Flushing

@@ -1,0 +1,20 @@
+//! The array: its calls over any member store, log and layout.
+pub mod array;
+mod block;
+mod checks;
+mod close;
+mod destage;
+mod finish;
+mod flush;
+mod format;
+mod give_up;
+mod new;
+mod next;
+mod open;
+mod power;
+mod read;
+mod read_short;
+pub mod refusal;
+mod step;
+pub mod tokens;
+mod write;
