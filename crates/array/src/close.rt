@@ -56,14 +56,15 @@ impl<S: MemberStore, G: IntentLog, L: Layout> Array<S, G, L> {
     pub(crate) fn close(&mut self, permit: ReadyPermit) -> Result<(), CloseRefusal>
         ensures sound { λ _. ⌜ (Sound (S·MemberStore .meaning) (G·IntentLog .meaning) (G·IntentLog .sound) (now (self .entry)) → Sound (S·MemberStore .meaning) (G·IntentLog .meaning) (G·IntentLog .sound) (now (self .exit))) ⌝ }
         ensures does { λ r. ⌜ (Sound (S·MemberStore .meaning) (G·IntentLog .meaning) (G·IntentLog .sound) (now (self .entry)) → Closes (geometry (L·Layout .arrangement) (means (S·MemberStore .meaning) (G·IntentLog .meaning) (now (self .entry)))) (means (S·MemberStore .meaning) (G·IntentLog .meaning) (now (self .entry))) (closed r) (means (S·MemberStore .meaning) (G·IntentLog .meaning) (now (self .exit)))) ⌝ }
-        ensures back { λ r. ⌜ PermitBack permit r ⌝ }
+        ensures back { λ r. ⌜ PermitBack (now (self .entry) .state) permit r ⌝ }
     {
         match self.state {
             State::Ready => match self.close_ready(permit) {
                 Ok(()) => Ok(()),
                 Err(e) => Err(CloseRefusal::Taken(e)),
             },
-            _ => Err(CloseRefusal::Returned(self.state, permit)),
+            State::Fallen | State::Down | State::Resync(_) | State::Short(_) =>
+                Err(CloseRefusal::Returned(self.state, permit)),
         }
     }
 }

@@ -42,7 +42,8 @@ impl<S: MemberStore, G: IntentLog, L: Layout> Array<S, G, L> {
                 },
                 Err(refusal) => Err(refusal),
             },
-            _ => Err(ArrayRefusal::WrongState(self.state)),
+            State::Fallen | State::Down | State::Resync(_) | State::Short(_) =>
+                Err(ArrayRefusal::WrongState(self.state)),
         }
     }
 }

@@ -46,7 +46,8 @@ impl<S: MemberStore, G: IntentLog, L: Layout> Array<S, G, L> {
                 Ok(_) => put_block(&mut self.caches, block, bytes),
                 Err(e) => Err(e),
             },
-            _ => Err(ArrayRefusal::WrongState(self.state)),
+            State::Fallen | State::Down | State::Resync(_) | State::Short(_) =>
+                Err(ArrayRefusal::WrongState(self.state)),
         }
     }
 }
