@@ -33,6 +33,14 @@ static void proved(const uint8_t *blocks, int count, uint8_t *into) {
     if (!dustercyan_parity(blocks, (size_t)count * BLOCK, into, BLOCK)) abort();
 }
 
+// The data is copied to one small place that stays in cache: little more than reading it.
+__attribute__((noinline)) static void copied_small(const uint8_t *blocks, int count, uint8_t *into) {
+    static uint8_t room[MOST * BLOCK];
+    (void)into;
+    memcpy(room, blocks, (size_t)count * BLOCK);
+    __asm__ volatile("" ::: "memory");
+}
+
 // All of the data is copied, to a place as large.
 __attribute__((noinline)) static void copied(const uint8_t *blocks, int count, uint8_t *into) {
     memcpy(into, blocks, (size_t)count * BLOCK);
@@ -93,12 +101,13 @@ static void compare(const char *where, int members, size_t bytes, size_t turns) 
     double r = measure(plain_rows, data, stripes, count, two, BLOCK, turns);
     double best = q > r ? q : r;
     double c = measure(copied, data, stripes, count, copy, (size_t)count * BLOCK, turns);
-    printf("%-11s M=%d  proved %6.1f GB/s  plain loop %6.1f  memcpy %6.1f", where, members, p, best, c);
+    double d = measure(copied_small, data, stripes, count, two, 0, turns);
+    printf("%-11s M=%d  proved %6.1f GB/s  plain loop %6.1f  memcpy %6.1f  memcpy to cache %6.1f", where, members, p, best, c, d);
 #ifdef HAVE_ISAL
     double i = measure(isal, data, stripes, count, two, BLOCK, turns);
     printf("  ISA-L %6.1f", i);
 #endif
-    printf("  | of plain %.2f, of memcpy %.2f", p / best, p / c);
+    printf("  | of plain %.2f, of memcpy %.2f, of memcpy to cache %.2f", p / best, p / c, p / d);
 #ifdef HAVE_ISAL
     printf(", of ISA-L %.2f", p / i);
 #endif
