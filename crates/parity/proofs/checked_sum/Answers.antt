@@ -6,5 +6,5 @@ use Rattle.parity.proofs.checked_sum.Goals as goal
 pub returns : goal.returns
 returns c = record {
   gives = search rules;
-  regains = λ blocks p i w h e k same. c.sum-into.ensures ∙ ap parity_of same ∙ sym (any_block blocks p i w h e k);
+  regains = λ blocks p i w h e k same. c.sum_into.ensures ∙ ap parity_of same ∙ sym (any_block blocks p i w h e k);
 }

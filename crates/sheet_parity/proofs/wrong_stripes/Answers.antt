@@ -3,19 +3,19 @@ use Rattle.std.proofs.lemmas.Bool.{true≢false}
 use Rattle.memory_store.specs.Memory.{memory_means}
 use Rattle.sheet_parity.specs.Right.{AllRight}
 use Rattle.sheet_parity.proofs.wrong_stripes.Goals as goal
-use Rattle.sheet_parity.proofs.wrong_stripes.Goals.{then-not-is-right, else-not-is-right}
+use Rattle.sheet_parity.proofs.wrong_stripes.Goals.{then-not-is_right, else-not-is_right}
 
 pub loop-stripe-preserved : goal.loop-stripe-preserved
 loop-stripe-preserved c =
-    elim c.if-not-is-right.branch [
-      | then-not-is-right w ↦ (
+    elim c.if-not-is_right.branch [
+      | then-not-is_right w ↦ (
         omega (arith, w.wrong-is, c.loop-stripe.invariant.0),
         (λ z. absurd (omega (arith, w.wrong-is, z))),
-        (λ all. absurd (true≢false (sym (c.is-right.ensures.1 (all c.loop-stripe.stripe (omega arith))) ∙ w.if-not-is-right.true))),
+        (λ all. absurd (true≢false (sym (c.is_right.ensures.1 (all c.loop-stripe.stripe (omega arith))) ∙ w.if-not-is_right.true))),
       )
-      | else-not-is-right w ↦ (
+      | else-not-is_right w ↦ (
         omega (arith, w.wrong-is, c.loop-stripe.invariant.0),
-        (λ z. below_more _ _ (c.loop-stripe.invariant.1 (sym w.wrong-is ∙ z)) (c.is-right.ensures.0 w.if-not-is-right.false)),
+        (λ z. below_more _ _ (c.loop-stripe.invariant.1 (sym w.wrong-is ∙ z)) (c.is_right.ensures.0 w.if-not-is_right.false)),
         (λ all. w.wrong-is ∙ c.loop-stripe.invariant.2 (λ s lt. all s (omega arith))),
       )
     ]

@@ -10,6 +10,6 @@ returns-in-Ok g c =
     let m = g.S.MemberStore.meaning c.args.store.now in
     let l = g.G.IntentLog.meaning c.args.log.now in
     record {
-      sized = whichever (Sized m) c.check-record.result c.in-Ok.ensures.0;
-      checks = λ arrange q d h. c.check-record.ensures q d m h ∙ within_limits arrange m (record_check (array q d m l)) c.in-Ok.ensures.0;
+      sized = whichever (Sized m) c.check_record.result c.in-Ok.ensures.0;
+      checks = λ arrange q d h. c.check_record.ensures q d m h ∙ within_limits arrange m (record_check (array q d m l)) c.in-Ok.ensures.0;
     }

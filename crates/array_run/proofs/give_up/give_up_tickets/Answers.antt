@@ -7,10 +7,10 @@ pub loop-token-preserved : goal.loop-token-preserved
 loop-token-preserved g c =
     let m = means g.S.MemberStore.meaning g.G.IntentLog.meaning in
     let k = c.loop-token.invariant.1.0 in (
-      λ h. c.give-up-resync.ensures.sound (c.loop-token.invariant.0 h),
+      λ h. c.give_up_resync.ensures.sound (c.loop-token.invariant.0 h),
       (
         k + 1,
         omega (arith, c.loop-token.invariant.1.1, c.in-Some.ensures.len),
-        one_more k (m c.args.array.now) (m c.loop-token.array) (m c.give-up-resync.new.self) c.loop-token.invariant.1.2 c.give-up-resync.ensures.does,
+        one_more k (m c.args.array.now) (m c.loop-token.array) (m c.give_up_resync.new.self) c.loop-token.invariant.1.2 c.give_up_resync.ensures.does,
       ),
     )

@@ -10,8 +10,8 @@ returns-in-Ok-read g c =
     let s = means g.S.MemberStore.meaning g.G.IntentLog.meaning c.args.array.now in
     let t = means g.S.MemberStore.meaning g.G.IntentLog.meaning c.read.new.self in
     let new = c.read.new.into in
-    let e = c.as-mut-slice.ensures.value in
-    let long : length new ≡ c.in-Ok.buffer.len = omega (arith, c.read.auto.into, c.as-mut-slice.ensures.len) in
+    let e = c.as_mut_slice.ensures.value in
+    let long : length new ≡ c.in-Ok.buffer.len = omega (arith, c.read.auto.into, c.as_mut_slice.ensures.len) in
     record {
       sound = search rules;
       made = λ h. inr (
@@ -30,7 +30,7 @@ returns-in-Err-read g c =
     let s = means g.S.MemberStore.meaning g.G.IntentLog.meaning c.args.array.now in
     let t = means g.S.MemberStore.meaning g.G.IntentLog.meaning c.read.new.self in
     let new = c.read.new.into in
-    let e = c.as-mut-slice.ensures.value in
+    let e = c.as_mut_slice.ensures.value in
     record {
       sound = search rules;
       made = λ h. inr (

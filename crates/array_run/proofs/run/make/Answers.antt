@@ -12,7 +12,7 @@ returns-in-PowerOn g c =
     let m = means g.S.MemberStore.meaning g.G.IntentLog.meaning in
     record {
       sound = search rules;
-      made = λ h. made_as g.L.Layout.arrangement c.args.call call.PowerOn (counts_of c.args.tokens.now) (m c.args.array.now) (Plain c.power-on.result) (counts_of c.args.tokens.now) (m c.power-on.new.self) c.in-PowerOn.is (inr (lit< tt, (c.power-on.result, refl, c.power-on.ensures.does, refl)));
+      made = λ h. made_as g.L.Layout.arrangement c.args.call call.PowerOn (counts_of c.args.tokens.now) (m c.args.array.now) (Plain c.power_on.result) (counts_of c.args.tokens.now) (m c.power_on.new.self) c.in-PowerOn.is (inr (lit< tt, (c.power_on.result, refl, c.power_on.ensures.does, refl)));
       grown = none_grown c.args.tokens.now;
       enough = λ _ _. refl;
     }

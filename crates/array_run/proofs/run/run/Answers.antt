@@ -26,7 +26,7 @@ returns-in-Err g c =
     record {
       enough = λ p r a. absurd (omega (arith, a, c.in-Err.ensures.full, c.loop-call.invariant.3, c.loop-call.invariant.4, c.loop-call-test.true));
       reaches = λ r a. absurd (omega (arith, a, c.in-Err.ensures.full, c.loop-call.invariant.3, c.loop-call.invariant.4, c.loop-call-test.true));
-      well-formed = c.loop-call.invariant.0;
+      well_formed = c.loop-call.invariant.0;
       promise = λ f o r. keeps g.L.Layout.arrangement c.args.calls.now (vec_items c.args.answers.now) (counts_of c.args.tokens.now) (m c.args.array.now) o
           (vec_items c.reserve.new.self) n (counts_of c.loop-call.tokens) (m c.loop-call.array) (false ≡ true) g.met.L.Layout.lawful few (λ e. unmade e)
           (still g.L.Layout.arrangement c.args.calls.now (vec_items c.args.answers.now) (counts_of c.args.tokens.now) (m c.args.array.now) o
@@ -47,7 +47,7 @@ returns-in-Err-make g c =
           (is_read (get_or c.args.calls.now n PowerOn) (λ p. c.in-Err-make.ensures.enough p
           (room_left (length c.args.calls.now) n c.args.tokens.now c.loop-call.tokens c.loop-call-test.true r c.loop-call.invariant.2))) in
           omega (arith, most, c.loop-call.invariant.4, c.reserve.ensures.len);
-      well-formed = λ f. (
+      well_formed = λ f. (
         c.make.ensures.sound (c.loop-call.invariant.0 f).0,
         subst Idle (sym (c.in-Err-make.ensures.made (c.loop-call.invariant.0 f).0).1) (c.loop-call.invariant.0 f).1,
       );
@@ -69,14 +69,14 @@ loop-call-preserved g c =
             (c.in-Ok.ensures.made (c.loop-call.invariant.0 f).0) (c.loop-call.invariant.0 f).1,
       ),
       λ f o r. one_more g.L.Layout.arrangement c.args.calls.now (vec_items c.args.answers.now) (counts_of c.args.tokens.now) (m c.args.array.now) o
-          g.met.L.Layout.lawful (vec_items c.loop-call.answers) (vec_items c.push-reserved.new.self) n (counts_of c.loop-call.tokens) (counts_of c.make.new.tokens)
+          g.met.L.Layout.lawful (vec_items c.loop-call.answers) (vec_items c.push_reserved.new.self) n (counts_of c.loop-call.tokens) (counts_of c.make.new.tokens)
           (m c.loop-call.array) (m c.make.new.array) call c.in-Ok.answer (c.loop-call.invariant.0 f).1
           (take_more c.args.calls.now n PowerOn c.loop-call-test.true)
-          (c.push-reserved.ensures.items ∙ ap (λ l. l ++ c.in-Ok.answer ∷ []) c.reserve.ensures.items)
+          (c.push_reserved.ensures.items ∙ ap (λ l. l ++ c.in-Ok.answer ∷ []) c.reserve.ensures.items)
           (c.in-Ok.ensures.made (c.loop-call.invariant.0 f).0) (c.loop-call.invariant.1 f o r),
       grown_more n c.args.tokens.now c.loop-call.tokens c.make.new.tokens c.loop-call.invariant.2 c.make.ensures.grown,
-      omega (arith, c.loop-call.invariant.3, c.reserve.ensures.capacity, c.push-reserved.ensures.capacity),
-      omega (arith, c.loop-call.invariant.4, c.reserve.ensures.len, c.push-reserved.ensures.len),
+      omega (arith, c.loop-call.invariant.3, c.reserve.ensures.capacity, c.push_reserved.ensures.capacity),
+      omega (arith, c.loop-call.invariant.4, c.reserve.ensures.len, c.push_reserved.ensures.len),
     )
 
 pub returns : goal.returns
@@ -88,7 +88,7 @@ returns g c =
     record {
       enough = λ p r a. refl;
       reaches = λ r a. omega (arith, before_most c.args.calls.now, c.loop-call.invariant.4, all);
-      well-formed = c.loop-call.invariant.0;
+      well_formed = c.loop-call.invariant.0;
       promise = λ f o r. keeps g.L.Layout.arrangement c.args.calls.now (vec_items c.args.answers.now) (counts_of c.args.tokens.now) (m c.args.array.now) o
           (vec_items c.loop-call.answers) n (counts_of c.loop-call.tokens) (m c.loop-call.array) (true ≡ true) g.met.L.Layout.lawful few (λ e. all) (c.loop-call.invariant.1 f o r);
     }

@@ -5,13 +5,13 @@ use Rattle.array_model.specs.Calls.{ReadsShort}
 use Rattle.array_run.proofs.Buffers.{filled}
 use Rattle.array_run.proofs.short.read_short.Goals as goal
 
-pub returns-in-Ok-read-short : goal.returns-in-Ok-read-short
-returns-in-Ok-read-short g c =
+pub returns-in-Ok-read_short : goal.returns-in-Ok-read_short
+returns-in-Ok-read_short g c =
     let s = means g.S.MemberStore.meaning g.G.IntentLog.meaning c.args.array.now in
-    let t = means g.S.MemberStore.meaning g.G.IntentLog.meaning c.read-short.new.self in
-    let new = c.read-short.new.into in
-    let e = c.as-mut-slice.ensures.value in
-    let long : length new ≡ c.in-Ok.buffer.len = omega (arith, c.read-short.auto.into, c.as-mut-slice.ensures.len) in
+    let t = means g.S.MemberStore.meaning g.G.IntentLog.meaning c.read_short.new.self in
+    let new = c.read_short.new.into in
+    let e = c.as_mut_slice.ensures.value in
+    let long : length new ≡ c.in-Ok.buffer.len = omega (arith, c.read_short.auto.into, c.as_mut_slice.ensures.len) in
     record {
       sound = search rules;
       made = λ h. inr (
@@ -19,26 +19,26 @@ returns-in-Ok-read-short g c =
         (
           (Ok tt, new),
           (refl, filled c.in-Ok.buffer.len new (drop (length new) c.in-Ok.buffer.items) long),
-          subst (λ (old : List ℕ). ReadsShort (geometry g.L.Layout.arrangement s) c.args.block old new s (Ok tt) t) (e ∙ c.in-Ok.ensures) (c.in-Ok-read-short.ensures.does h),
+          subst (λ (old : List ℕ). ReadsShort (geometry g.L.Layout.arrangement s) c.args.block old new s (Ok tt) t) (e ∙ c.in-Ok.ensures) (c.in-Ok-read_short.ensures.does h),
           refl,
         ),
       );
     }
 
-pub returns-in-Err-read-short : goal.returns-in-Err-read-short
-returns-in-Err-read-short g c =
+pub returns-in-Err-read_short : goal.returns-in-Err-read_short
+returns-in-Err-read_short g c =
     let s = means g.S.MemberStore.meaning g.G.IntentLog.meaning c.args.array.now in
-    let t = means g.S.MemberStore.meaning g.G.IntentLog.meaning c.read-short.new.self in
-    let new = c.read-short.new.into in
-    let e = c.as-mut-slice.ensures.value in
+    let t = means g.S.MemberStore.meaning g.G.IntentLog.meaning c.read_short.new.self in
+    let new = c.read_short.new.into in
+    let e = c.as_mut_slice.ensures.value in
     record {
       sound = search rules;
       made = λ h. inr (
         search rules,
         (
-          (Err c.in-Err-read-short.e, new),
+          (Err c.in-Err-read_short.e, new),
           refl,
-          subst (λ (old : List ℕ). ReadsShort (geometry g.L.Layout.arrangement s) c.args.block old new s (Err c.in-Err-read-short.e) t) (e ∙ c.in-Ok.ensures) (c.in-Err-read-short.ensures.does h),
+          subst (λ (old : List ℕ). ReadsShort (geometry g.L.Layout.arrangement s) c.args.block old new s (Err c.in-Err-read_short.e) t) (e ∙ c.in-Ok.ensures) (c.in-Err-read_short.ensures.does h),
           refl,
         ),
       );

@@ -13,8 +13,8 @@ returns g c =
     let n = blocks_of c.args.shape in
     let f = by_position m n (contents c.args.caches.now).destaging c.args.stripe in
     let most : m ≤ 8 = c.args.shape.members.most in
-    destages_same g.L.Layout.arrangement m n c.args.stripe (cached_in c.cached-blocks-cached.result) f (g.S.MemberStore.meaning c.args.store.now) c.destage-stripe.result (g.S.MemberStore.meaning c.destage-stripe.new.store)
+    destages_same g.L.Layout.arrangement m n c.args.stripe (cached_in c.cached_blocks-cached.result) f (g.S.MemberStore.meaning c.args.store.now) c.destage_stripe.result (g.S.MemberStore.meaning c.destage_stripe.new.store)
     (λ j h. let l : j < 7 = omega arith in
-    c.cached-blocks-cached.ensures j l
-    ∙ copied (f j) (get_or c.destaging-blocks.new.held j false) (get_or c.destaging-blocks.new.rows j []) _ (c.destaging-blocks.ensures.positions j) (c.destaging-blocks.ensures.rows j))
-    c.destage-stripe.ensures
+    c.cached_blocks-cached.ensures j l
+    ∙ copied (f j) (get_or c.destaging_blocks.new.held j false) (get_or c.destaging_blocks.new.rows j []) _ (c.destaging_blocks.ensures.positions j) (c.destaging_blocks.ensures.rows j))
+    c.destage_stripe.ensures

@@ -20,7 +20,7 @@ turn-smaller-in-Moved g c =
     let m = members_of c.args.shape in
     let n = blocks_of c.args.shape in
     let b = contents c.turn.caches in
-    let d = contents c.destage-once.new.caches in
+    let d = contents c.destage_once.new.caches in
     falls_moved m n b d c.in-Moved.field-0 (subst (λ a. After m n b a d) c.in-Moved.is c.in-Ok.ensures.caches)
 
 pub turn-smaller : goal.turn-smaller
@@ -28,7 +28,7 @@ turn-smaller g c =
     let m = members_of c.args.shape in
     let n = blocks_of c.args.shape in
     let b = contents c.turn.caches in
-    let d = contents c.destage-once.new.caches in
+    let d = contents c.destage_once.new.caches in
     falls_changed m n b d c.in-Changed.count (subst (λ a. After m n b a d) c.in-Changed.is c.in-Ok.ensures.caches)
 
 pub turn-preserved-in-Moved : goal.turn-preserved-in-Moved
@@ -36,12 +36,12 @@ turn-preserved-in-Moved g c =
     let m = members_of c.args.shape in
     let n = blocks_of c.args.shape in
     let b = contents c.turn.caches in
-    let d = contents c.destage-once.new.caches in
+    let d = contents c.destage_once.new.caches in
     let a = sized g.L.Layout.arrangement c.args.shape in
     let z = array Ready (contents c.args.caches.now) (g.S.MemberStore.meaning c.args.store.now) (g.G.IntentLog.meaning c.args.log.now) in
     let u = g.S.MemberStore.meaning c.turn.store in
     let l = g.G.IntentLog.meaning c.turn.log in
-    let t = array Ready d (g.S.MemberStore.meaning c.destage-once.new.store) (g.G.IntentLog.meaning c.destage-once.new.log) in
+    let t = array Ready d (g.S.MemberStore.meaning c.destage_once.new.store) (g.G.IntentLog.meaning c.destage_once.new.log) in
     let i = c.turn.invariant in
     let f : left_in m n d < left_in m n b = falls_moved m n b d c.in-Moved.field-0 (subst (λ x. After m n b x d) c.in-Moved.is c.in-Ok.ensures.caches) in
     let few : c.turn.stripes + c.turn.puts + left_in m n b ≤ 352321536 = i.2 in (
@@ -58,12 +58,12 @@ turn-preserved g c =
     let m = members_of c.args.shape in
     let n = blocks_of c.args.shape in
     let b = contents c.turn.caches in
-    let d = contents c.destage-once.new.caches in
+    let d = contents c.destage_once.new.caches in
     let a = sized g.L.Layout.arrangement c.args.shape in
     let z = array Ready (contents c.args.caches.now) (g.S.MemberStore.meaning c.args.store.now) (g.G.IntentLog.meaning c.args.log.now) in
     let u = g.S.MemberStore.meaning c.turn.store in
     let l = g.G.IntentLog.meaning c.turn.log in
-    let t = array Ready d (g.S.MemberStore.meaning c.destage-once.new.store) (g.G.IntentLog.meaning c.destage-once.new.log) in
+    let t = array Ready d (g.S.MemberStore.meaning c.destage_once.new.store) (g.G.IntentLog.meaning c.destage_once.new.log) in
     let i = c.turn.invariant in
     let h = subst (λ x. After m n b x d) c.in-Changed.is c.in-Ok.ensures.caches in
     let one : c.in-Changed.count ≤ 1 = h.1.0 in
@@ -80,12 +80,12 @@ turn-preserved g c =
 pub returns-in-Idle : goal.returns-in-Idle
 returns-in-Idle g c =
     let b = contents c.turn.caches in
-    let d = contents c.destage-once.new.caches in
+    let d = contents c.destage_once.new.caches in
     let a = sized g.L.Layout.arrangement c.args.shape in
     let z = array Ready (contents c.args.caches.now) (g.S.MemberStore.meaning c.args.store.now) (g.G.IntentLog.meaning c.args.log.now) in
     let u = g.S.MemberStore.meaning c.turn.store in
     let l = g.G.IntentLog.meaning c.turn.log in
-    let t = array Ready d (g.S.MemberStore.meaning c.destage-once.new.store) (g.G.IntentLog.meaning c.destage-once.new.log) in
+    let t = array Ready d (g.S.MemberStore.meaning c.destage_once.new.store) (g.G.IntentLog.meaning c.destage_once.new.log) in
     let i = c.turn.invariant in
     record {
       sound = λ h. c.in-Ok.ensures.sound (i.0 h);

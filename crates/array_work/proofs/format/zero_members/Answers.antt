@@ -8,13 +8,13 @@ use Rattle.array_work.proofs.format.zero_members.Goals as goal
 pub loop-member-preserved : goal.loop-member-preserved
 loop-member-preserved g c =
     let u = g.S.MemberStore.meaning c.loop-member.store in
-    let t = g.S.MemberStore.meaning c.zero-member.new.store in
+    let t = g.S.MemberStore.meaning c.zero_member.new.store in
     for_each_more (λ m. for_each (λ b. store m b zeros ∷ []) c.blocks-blocks.result) c.loop-member.member (g.S.MemberStore.meaning c.args.store.now) u t c.loop-member.invariant c.in-default.ensures
 
 pub returns-in-Err : goal.returns-in-Err
 returns-in-Err g c =
     let u = g.S.MemberStore.meaning c.loop-member.store in
-    let t = g.S.MemberStore.meaning c.zero-member.new.store in
+    let t = g.S.MemberStore.meaning c.zero_member.new.store in
     let s = g.S.MemberStore.meaning c.args.store.now in
     let l : c.loop-member.member < members_of c.args.shape = omega arith in
     let d = for_each_stopped (λ m. for_each (λ b. store m b zeros ∷ []) c.blocks-blocks.result) (members_of c.args.shape) c.loop-member.member s u c.in-Err.e t l c.loop-member.invariant c.in-Err.ensures in

@@ -13,8 +13,8 @@ loop-stripe-init c =
     let f = above_length (slot_stripe (members_of a) (blocks_of a) c.args.owner) 0 xs in
     (refl, omega arith, listing_none (HasStripe (members_of a) (blocks_of a) (blocks c.args.owner xs)) _)
 
-pub overflow-cast-numbers : goal.overflow-cast-numbers
-overflow-cast-numbers c =
+pub overflow_cast-numbers : goal.overflow_cast-numbers
+overflow_cast-numbers c =
     let a = c.args.shape in
     let s = stripe_small (members_of a) (blocks_of a) a.members.least (blocks c.args.owner c.args.slots.now) c.in-Some.stripe c.in-Some.ensures.1 in
     record { fits = omega (arith, a.few) }

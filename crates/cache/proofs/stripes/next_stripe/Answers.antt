@@ -9,7 +9,7 @@ loop-i-preserved c =
     let xs = c.args.slots.now in
     let a = c.args.shape in
     let l : c.loop-i.i < length xs = omega arith in
-    lowest_turn (slot_stripe (members_of a) (blocks_of a) c.args.owner) c.args.from xs c.loop-i.i _ c.stripe-stripe.result c.loop-i.best c.lower-stripe-best.result l c.stripe-stripe.ensures c.lower-stripe-best.ensures c.loop-i.invariant
+    lowest_turn (slot_stripe (members_of a) (blocks_of a) c.args.owner) c.args.from xs c.loop-i.i _ c.stripe-stripe.result c.loop-i.best c.lower_stripe-best.result l c.stripe-stripe.ensures c.lower_stripe-best.ensures c.loop-i.invariant
 
 pub returns : goal.returns
 returns c =

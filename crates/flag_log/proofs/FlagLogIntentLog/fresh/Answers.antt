@@ -22,8 +22,8 @@ returns g c =
     let law = g.met.S.MemberStore.stands end.store in
     let P : Standing → Type 0 = λ y. (y.stands ≡ true) × NamesList y c.args.list.now in
     let Q : Standing → Type 0 = λ y. y.stands ≡ true in
-    let pr : Sound me.awake s me.standing → old.stands ≡ true = λ h. ap is_some (sym (h on).same) ∙ c.is-none.ensures ∙ ap not c.if-is-none.false in
-    let li = sym c.is-list.ensures ∙ c.if-not-is-list.false in
+    let pr : Sound me.awake s me.standing → old.stands ≡ true = λ h. ap is_some (sym (h on).same) ∙ c.is_none.ensures ∙ ap not c.if-is_none.false in
+    let li = sym c.is_list.ensures ∙ c.if-not-is_list.false in
     record {
       sound = λ h. sound_after s t me.awake end.awake (Some NamesEvery) me.standing end.standing at pt law on c.put.ensures.awake h c.put.result c.put.ensures.calls c.put.ensures.memory;
       means = λ h. changes s t me.awake end.awake (Some NamesEvery) me.standing end.standing at pt law on c.put.ensures.awake h c.put.result c.put.ensures.calls (fresh_checks (flag me.awake s) c.args.list.now) P Q (simp (on, pr h, li)) (refl, λ i j. refl) (pr h) refl;

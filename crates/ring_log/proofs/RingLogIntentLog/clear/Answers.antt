@@ -41,10 +41,10 @@ returns-in-None g c =
     let t = g.S.MemberStore.meaning end.store in
     let l = (g.met.S.MemberStore.counts me.store).0 in
     let law = g.met.S.MemberStore.stands end.store in
-    let r = contents c.record-after.result in
+    let r = contents c.record_after.result in
     let is : b ≡ None = ap kept c.in-None.is in
     let ver : version_of b ≡ 0 = ap version_of is in
-    let next : r ≡ contents_of (version_of b + 1) [] = c.record-after.ensures ∙ (ap (λ (n : ℕ). contents_of (n + 1) (stripes c.empty.result)) (sym ver) ∙ ap (contents_of (version_of b + 1)) c.empty.ensures) in
+    let next : r ≡ contents_of (version_of b + 1) [] = c.record_after.ensures ∙ (ap (λ (n : ℕ). contents_of (n + 1) (stripes c.empty.result)) (sym ver) ∙ ap (contents_of (version_of b + 1)) c.empty.ensures) in
     let up : version_of b < r.version = let q = ap (λ (z : Contents). z.version) next in omega arith in
     record {
       sound = λ h. sound_after s t me.awake end.awake r b (kept end.standing) l law on c.put.ensures.awake h up c.put.ensures.valid c.put.result c.put.ensures.calls (remembers s r me.standing c.put.result end.standing c.put.ensures.memory);
@@ -62,12 +62,12 @@ returns-else-len-eq0 g c =
     let t = g.S.MemberStore.meaning end.store in
     let l = (g.met.S.MemberStore.counts me.store).0 in
     let law = g.met.S.MemberStore.stands end.store in
-    let r = contents c.record-after-in-Some.result in
+    let r = contents c.record_after-in-Some.result in
     let st = c.in-Some.standing in
     let is : b ≡ Some (st.slot, contents st.record) = ap kept c.in-Some.is in
     let ver : c.version.result ≡ version_of b = c.version.ensures ∙ sym (ap version_of is) in
     let some : length (contents st.record).stripes ≡ 0 → ⊥ = λ z. c.if-len-eq0.false (c.len.ensures ∙ ap length c.stripes.ensures ∙ z) in
-    let next : r ≡ contents_of (version_of b + 1) [] = c.record-after-in-Some.ensures ∙ next_is b c.version.result (stripes c.empty-in-Some.result) [] ver c.empty-in-Some.ensures in
+    let next : r ≡ contents_of (version_of b + 1) [] = c.record_after-in-Some.ensures ∙ next_is b c.version.result (stripes c.empty-in-Some.result) [] ver c.empty-in-Some.ensures in
     let up : version_of b < r.version = let q = ap (λ (z : Contents). z.version) next in omega arith in
     record {
       sound = λ h. sound_after s t me.awake end.awake r b (kept end.standing) l law on c.put-in-Some.ensures.awake h up c.put-in-Some.ensures.valid c.put-in-Some.result c.put-in-Some.ensures.calls (remembers s r me.standing c.put-in-Some.result end.standing c.put-in-Some.ensures.memory);

@@ -21,14 +21,14 @@ returns-in-None g c =
     let b = kept me.standing in
     let w = c.args.list.now in
     let on : (me.awake && s.on) ≡ true = sym c.powered.ensures ∙ c.if-not-powered.false in
-    let pr : present b ≡ true = kept_present me.standing ∙ c.is-none.ensures ∙ ap not c.if-is-none.false in
-    let li = sym c.is-list.ensures ∙ c.if-not-is-list.false in
+    let pr : present b ≡ true = kept_present me.standing ∙ c.is_none.ensures ∙ ap not c.if-is_none.false in
+    let li = sym c.is_list.ensures ∙ c.if-not-is_list.false in
     let ver : c.version-version.result ≡ version_of b = c.version-version.ensures in
     let low : version_of b < 4294967294 = let q = c.if-version-ge-SPENT.false in omega arith in
     let mine = c.named.result in
-    let new = c.set-of.result in
+    let new = c.set_of.result in
     let wide : leb (length (merged (stripes_of b) w)) 64 ≡ false =
-    ap (λ (ss : List ℕ). leb (length ss) 64) (sym (same_merged _ _ _ _ c.named.ensures c.set-of.ensures)) ∙ sym (union_fits None (merged (stripes mine) (stripes new)) c.in-None.ensures.value (merged_rising (stripes mine) 0 (stripes new) mine.rising new.rising)) in
+    ap (λ (ss : List ℕ). leb (length ss) 64) (sym (same_merged _ _ _ _ c.named.ensures c.set_of.ensures)) ∙ sym (union_fits None (merged (stripes mine) (stripes new)) c.in-None.ensures.value (merged_rising (stripes mine) 0 (stripes new) mine.rising new.rising)) in
     record {
       sound = λ h. h;
       means = λ h. refused_by (mark_checks (ring me.awake s) w) (DoesNotFit (length w)) _ _ (does_not_fit s me.awake b w on (h on).same pr li low wide) refl;
@@ -42,20 +42,20 @@ returns-in-Some g c =
     let b = kept me.standing in
     let w = c.args.list.now in
     let on : (me.awake && s.on) ≡ true = sym c.powered.ensures ∙ c.if-not-powered.false in
-    let pr : present b ≡ true = kept_present me.standing ∙ c.is-none.ensures ∙ ap not c.if-is-none.false in
-    let li = sym c.is-list.ensures ∙ c.if-not-is-list.false in
+    let pr : present b ≡ true = kept_present me.standing ∙ c.is_none.ensures ∙ ap not c.if-is_none.false in
+    let li = sym c.is_list.ensures ∙ c.if-not-is_list.false in
     let ver : c.version-version.result ≡ version_of b = c.version-version.ensures in
     let low : version_of b < 4294967294 = let q = c.if-version-ge-SPENT.false in omega arith in
     let end = c.put.new.self in
     let t = g.S.MemberStore.meaning end.store in
     let l = (g.met.S.MemberStore.counts me.store).0 in
     let law = g.met.S.MemberStore.stands end.store in
-    let r = contents c.record-after.result in
+    let r = contents c.record_after.result in
     let mine = c.named.result in
-    let new = c.set-of.result in
+    let new = c.set_of.result in
     let both = c.in-Some.both in
-    let all : stripes both ≡ merged (stripes_of b) w = union_is both (merged (stripes mine) (stripes new)) c.in-Some.ensures.value ∙ same_merged _ _ _ _ c.named.ensures c.set-of.ensures in
-    let next : r ≡ contents_of (version_of b + 1) (merged (stripes_of b) w) = c.record-after.ensures ∙ next_is b c.version-version.result (stripes both) (merged (stripes_of b) w) ver all in
+    let all : stripes both ≡ merged (stripes_of b) w = union_is both (merged (stripes mine) (stripes new)) c.in-Some.ensures.value ∙ same_merged _ _ _ _ c.named.ensures c.set_of.ensures in
+    let next : r ≡ contents_of (version_of b + 1) (merged (stripes_of b) w) = c.record_after.ensures ∙ next_is b c.version-version.result (stripes both) (merged (stripes_of b) w) ver all in
     let up : version_of b < r.version = let q = ap (λ (z : Contents). z.version) next in omega arith in
     let fe : length (merged (stripes_of b) w) ≤ 64 = subst (λ (ss : List ℕ). length ss ≤ 64) all (few_stripes both) in
     record {

@@ -17,25 +17,25 @@ use Rattle.ring_log.proofs.Powering.{highest_start, highest_more, wide_enough_ch
 use Rattle.ring_log.proofs.RingLogIntentLog.power_on.Goals as goal
 
 pub loop-i-init : goal.loop-i-init
-loop-i-init g c = (refl, refl, refl, highest_start c.members-members.result (g.S.MemberStore.meaning c.power-on.new.self), refl)
+loop-i-init g c = (refl, refl, refl, highest_start c.members-members.result (g.S.MemberStore.meaning c.power_on.new.self), refl)
 
 pub returns-in-Err : goal.returns-in-Err
 returns-in-Err g c =
     let me = c.args.self.now in
     let s = g.S.MemberStore.meaning me.store in
-    let t = g.S.MemberStore.meaning c.power-on.new.self in
+    let t = g.S.MemberStore.meaning c.power_on.new.self in
     let u = g.S.MemberStore.meaning c.read.new.self in
     let mm = c.members-members.result in
     let bb = c.blocks-blocks.result in
-    let cnt = c.slot-count-slots.result in
+    let cnt = c.slot_count-slots.result in
     let l = (g.met.S.MemberStore.counts me.store).0 in
     let v = c.loop-i in
     let w = g.S.MemberStore.meaning v.self.store in
     let em = c.members-members.ensures in
     let eb = c.blocks-blocks.ensures in
-    let ec = c.slot-count-slots.ensures.count in
-    let wide = c.if-slots-lt-LEAST-SLOTS.false in
-    let p = c.power-on.ensures.means in
+    let ec = c.slot_count-slots.ensures.count in
+    let wide = c.if-slots-lt-LEAST_SLOTS.false in
+    let p = c.power_on.ensures.means in
     let r = c.in-Err.ensures.means in
     let e = c.in-Err.e in
     let q = read_cut s t me.awake mm bb cnt em eb ec l wide p v.i e v.bytes c.read.new.into u w c.loop-i-test.true v.invariant.2 v.invariant.0 r in
@@ -49,7 +49,7 @@ returns-in-Err g c =
 
 pub loop-i-preserved : goal.loop-i-preserved
 loop-i-preserved g c =
-    let t = g.S.MemberStore.meaning c.power-on.new.self in
+    let t = g.S.MemberStore.meaning c.power_on.new.self in
     let v = c.loop-i in
     let w = g.S.MemberStore.meaning v.self.store in
     let u = g.S.MemberStore.meaning c.read.new.self in
@@ -59,7 +59,7 @@ loop-i-preserved g c =
       c.read.auto.into ∙ v.invariant.0,
       v.invariant.1,
       r.2 ∙ v.invariant.2,
-      c.higher-best.ensures ∙ highest_more mm t v.i (kept v.best) (kept c.found-in.result) v.invariant.3 (c.found-in.ensures ∙ ap (λ (x : List ℕ). at_slot v.i (recorded x)) into),
+      c.higher-best.ensures ∙ highest_more mm t v.i (kept v.best) (kept c.found_in.result) v.invariant.3 (c.found_in.ensures ∙ ap (λ (x : List ℕ). at_slot v.i (recorded x)) into),
       for_each_more (read_slot mm) v.i t w u v.invariant.4 (read_done mm v.i w u v.bytes v.invariant.0 r.0 r.2),
     )
 
@@ -67,22 +67,22 @@ pub returns : goal.returns
 returns g c =
     let me = c.args.self.now in
     let s = g.S.MemberStore.meaning me.store in
-    let t = g.S.MemberStore.meaning c.power-on.new.self in
+    let t = g.S.MemberStore.meaning c.power_on.new.self in
     let v = c.loop-i in
     let u = g.S.MemberStore.meaning v.self.store in
     let mm = c.members-members.result in
     let bb = c.blocks-blocks.result in
-    let cnt = c.slot-count-slots.result in
+    let cnt = c.slot_count-slots.result in
     let l = (g.met.S.MemberStore.counts me.store).0 in
     let em = c.members-members.ensures in
     let eb = c.blocks-blocks.ensures in
-    let ec = c.slot-count-slots.ensures.count in
-    let wide = c.if-slots-lt-LEAST-SLOTS.false in
-    let p = c.power-on.ensures.means in
+    let ec = c.slot_count-slots.ensures.count in
+    let wide = c.if-slots-lt-LEAST_SLOTS.false in
+    let p = c.power_on.ensures.means in
     let e : v.i ≡ cnt = let k = v.auto.i-end in let j = c.loop-i-test.false in omega arith in
     let k = kept v.best in
     record {
       sound = λ _. subst (λ (x : Meaning). Steady x.members x.blocks x k) (sym v.invariant.2) (power_sound s t me.awake mm bb cnt em eb ec l wide p k v.i v.invariant.3 e);
-      means = (wide_enough_checks s t me.awake mm bb cnt em eb ec l wide p, subst (λ (x : Meaning). ChangeDone (MayStand (ring me.awake s)) (ring me.awake s) (ring true x)) (sym v.invariant.2) (power_whole s t me.awake mm bb cnt em eb ec l wide p k v.i true refl v.invariant.3 e (g.met.S.MemberStore.stands c.power-on.new.self)));
+      means = (wide_enough_checks s t me.awake mm bb cnt em eb ec l wide p, subst (λ (x : Meaning). ChangeDone (MayStand (ring me.awake s)) (ring me.awake s) (ring true x)) (sym v.invariant.2) (power_whole s t me.awake mm bb cnt em eb ec l wide p k v.i true refl v.invariant.3 e (g.met.S.MemberStore.stands c.power_on.new.self)));
       own = power_own s t me.awake mm bb cnt em eb ec l wide p (Ok tt) u (subst (λ (j : ℕ). Completed (Rattle.device_calls.specs.Lists.for_each (read_slot mm) j) t u) e v.invariant.4);
     }

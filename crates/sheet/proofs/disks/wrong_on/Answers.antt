@@ -8,4 +8,4 @@ use Rattle.sheet.proofs.disks.wrong_on.Goals as goal
 pub returns : goal.returns
 returns c =
     let P : MemoryStore → Type 0 = λ s. AllRight (memory_means s) 16 in
-    λ z. subst P (c.below-2.ensures ∙ ap (λ f. f.fuse.below) c.below.ensures) (c.wrong-stripes.ensures.right z)
+    λ z. subst P (c.below-2.ensures ∙ ap (λ f. f.fuse.below) c.below.ensures) (c.wrong_stripes.ensures.right z)

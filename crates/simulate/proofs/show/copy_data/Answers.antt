@@ -13,10 +13,10 @@ loop-position-preserved g c =
     let j = c.loop-position.position in
     let rows = c.loop-position.rows in
     let i = c.loop-position.invariant in
-    let at = c.data-place-at in
-    let x = c.copy-current.new.into in
+    let at = c.data_place-at in
+    let x = c.copy_current.new.into in
     let long : j < length rows = omega (arith, i.0) in
     let few : j < m - 1 = omega arith in (
       length-set rows j x ∙ i.0,
-      λ h. row_more (data_at w s) rows j x long (i.1 h) (at_place s at.result.member at.result.block (w.member j) w.block at.ensures.member at.ensures.block (h.member j few) x c.copy-current.ensures),
+      λ h. row_more (data_at w s) rows j x long (i.1 h) (at_place s at.result.member at.result.block (w.member j) w.block at.ensures.member at.ensures.block (h.member j few) x c.copy_current.ensures),
     )

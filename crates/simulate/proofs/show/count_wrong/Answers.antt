@@ -2,7 +2,7 @@ use Rattle.std.proofs.Common.{◌≡◌, ◌<◌, true, false, sym, ◌∙◌, a
 use Rattle.geometry.specs.Counts.{members_of, blocks_of}
 use Rattle.stripe_work.proofs.Scanning.{count_more}
 use Rattle.simulate.proofs.show.count_wrong.Goals as goal
-use Rattle.simulate.proofs.show.count_wrong.Goals.{then-not-is-right, else-not-is-right}
+use Rattle.simulate.proofs.show.count_wrong.Goals.{then-not-is_right, else-not-is_right}
 
 pub loop-stripe-preserved : goal.loop-stripe-preserved
 loop-stripe-preserved g c =
@@ -13,11 +13,11 @@ loop-stripe-preserved g c =
     let n = c.loop-stripe.wrong in
     let i = c.loop-stripe.invariant in
     let l : k < blocks_of c.args.shape = omega arith in
-    elim c.if-not-is-right.branch [
-      | then-not-is-right v ↦
-          let wrong : false ≡ c.is-right.result = search rules in
-          simp v.wrong-is (omega arith, λ all. count_more a m s k false n (wrong ∙ c.is-right.ensures (all k l)) (i.1 all))
-      | else-not-is-right v ↦
-          let right : true ≡ c.is-right.result = search rules in
-          simp v.wrong-is (omega arith, λ all. sym (add-zero n) ∙ count_more a m s k true n (right ∙ c.is-right.ensures (all k l)) (i.1 all))
+    elim c.if-not-is_right.branch [
+      | then-not-is_right v ↦
+          let wrong : false ≡ c.is_right.result = search rules in
+          simp v.wrong-is (omega arith, λ all. count_more a m s k false n (wrong ∙ c.is_right.ensures (all k l)) (i.1 all))
+      | else-not-is_right v ↦
+          let right : true ≡ c.is_right.result = search rules in
+          simp v.wrong-is (omega arith, λ all. sym (add-zero n) ∙ count_more a m s k true n (right ∙ c.is_right.ensures (all k l)) (i.1 all))
     ]

@@ -30,13 +30,13 @@ loop-position-preserved g c =
           )
       | in-None+in-default v ↦
           let r = v.in-default.ensures in
-          let a = v.data-place-at.ensures in
-          let got : v.read-block.new.into ≡ data_at w s j = r.bytes.0 ∙ ap (λ u. current u v.data-place-at.result.member v.data-place-at.result.block) i.0 ∙ ap (λ (m : ℕ). current s m v.data-place-at.result.block) a.member ∙ ap (λ (b : ℕ). current s (w.member j) b) a.block in
+          let a = v.data_place-at.ensures in
+          let got : v.read_block.new.into ≡ data_at w s j = r.bytes.0 ∙ ap (λ u. current u v.data_place-at.result.member v.data_place-at.result.block) i.0 ∙ ap (λ (m : ℕ). current s m v.data_place-at.result.block) a.member ∙ ap (λ (b : ℕ). current s (w.member j) b) a.block in
           simp (v.store-is, v.rows-is) (
             r.bytes.1 ∙ i.0,
-            more_read w k s j v.data-place-at.result.member v.data-place-at.result.block (g.S.MemberStore.meaning c.loop-position.store) (g.S.MemberStore.meaning v.read-block.new.store) v.in-None.is a.member a.block i.0 r.bytes.1 r.calls i.1,
+            more_read w k s j v.data_place-at.result.member v.data_place-at.result.block (g.S.MemberStore.meaning c.loop-position.store) (g.S.MemberStore.meaning v.read_block.new.store) v.in-None.is a.member a.block i.0 r.bytes.1 r.calls i.1,
             search rules,
-            row_more (merged w k s) c.loop-position.rows j v.read-block.new.into long i.3 (got ∙ merged_read w k s j v.in-None.is),
+            row_more (merged w k s) c.loop-position.rows j v.read_block.new.into long i.3 (got ∙ merged_read w k s j v.in-None.is),
           )
     ]
 
@@ -47,9 +47,9 @@ returns-in-Err g c =
     let k = cached_in c.args.cached.now in
     let l : c.loop-position.position < members_of c.args.shape - 1 = omega arith in
     record {
-      calls = stop_read w k s c.loop-position.position (members_of c.args.shape - 1) c.data-place-at.result.member c.data-place-at.result.block
-          (g.S.MemberStore.meaning c.loop-position.store) (g.S.MemberStore.meaning c.read-block.new.store) c.in-Err.e
-          l c.in-None.is c.data-place-at.ensures.member c.data-place-at.ensures.block c.loop-position.invariant.0 c.in-Err.ensures.calls c.loop-position.invariant.1;
+      calls = stop_read w k s c.loop-position.position (members_of c.args.shape - 1) c.data_place-at.result.member c.data_place-at.result.block
+          (g.S.MemberStore.meaning c.loop-position.store) (g.S.MemberStore.meaning c.read_block.new.store) c.in-Err.e
+          l c.in-None.is c.data_place-at.ensures.member c.data_place-at.ensures.block c.loop-position.invariant.0 c.in-Err.ensures.calls c.loop-position.invariant.1;
       rows = tt;
     }
 

@@ -5,7 +5,7 @@ use Rattle.stripe_work.specs.Stripe.{stripe_at}
 use Rattle.stripe_work.specs.Work.{cached_in, cached_store}
 use Rattle.stripe_work.proofs.Turns.{pass_store, more_store, stop_store}
 use Rattle.stripe_work.proofs.data.store_cached.Goals as goal
-use Rattle.stripe_work.proofs.data.store_cached.Goals.{in-Some+in-default-store-block, in-default}
+use Rattle.stripe_work.proofs.data.store_cached.Goals.{in-Some+in-default-store_block, in-default}
 
 pub loop-position-preserved : goal.loop-position-preserved
 loop-position-preserved g c =
@@ -14,10 +14,10 @@ loop-position-preserved g c =
     let k = cached_in c.args.cached.now in
     let j = c.loop-position.position in
     elim c.match-cached-position.branch [
-      | in-Some+in-default-store-block v ↦
+      | in-Some+in-default-store_block v ↦
           simp v.store-is
-          (more_store w k s j v.data-place-at.result.member v.data-place-at.result.block v.in-Some.block (g.S.MemberStore.meaning c.loop-position.store) (g.S.MemberStore.meaning v.store-block.new.store)
-          v.in-Some.is v.data-place-at.ensures.member v.data-place-at.ensures.block v.in-default-store-block.ensures c.loop-position.invariant)
+          (more_store w k s j v.data_place-at.result.member v.data_place-at.result.block v.in-Some.block (g.S.MemberStore.meaning c.loop-position.store) (g.S.MemberStore.meaning v.store_block.new.store)
+          v.in-Some.is v.data_place-at.ensures.member v.data_place-at.ensures.block v.in-default-store_block.ensures c.loop-position.invariant)
       | in-default v ↦
           let none : k j ≡ None = search rules in
           simp v.store-is (pass_store w k s j (g.S.MemberStore.meaning c.loop-position.store) none c.loop-position.invariant)
@@ -29,9 +29,9 @@ returns-in-Err g c =
     let w = stripe_at g.L.Layout.arrangement (members_of c.args.shape) c.args.stripe in
     let k = cached_in c.args.cached.now in
     let l : c.loop-position.position < members_of c.args.shape - 1 = omega arith in
-    stop_store w k s c.loop-position.position (members_of c.args.shape - 1) c.data-place-at.result.member c.data-place-at.result.block c.in-Some.block
-    (g.S.MemberStore.meaning c.loop-position.store) (g.S.MemberStore.meaning c.store-block.new.store) c.in-Err.e
-    l c.in-Some.is c.data-place-at.ensures.member c.data-place-at.ensures.block c.in-Err.ensures c.loop-position.invariant
+    stop_store w k s c.loop-position.position (members_of c.args.shape - 1) c.data_place-at.result.member c.data_place-at.result.block c.in-Some.block
+    (g.S.MemberStore.meaning c.loop-position.store) (g.S.MemberStore.meaning c.store_block.new.store) c.in-Err.e
+    l c.in-Some.is c.data_place-at.ensures.member c.data_place-at.ensures.block c.in-Err.ensures c.loop-position.invariant
 
 pub returns : goal.returns
 returns g c =

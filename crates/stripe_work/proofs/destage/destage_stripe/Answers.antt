@@ -12,7 +12,7 @@ pub returns-in-Ok : goal.returns-in-Ok
 returns-in-Ok g c =
     let m = members_of c.args.shape in
     let s = g.S.MemberStore.meaning c.args.store.now in
-    let t = g.S.MemberStore.meaning c.store-stripe.new.store in
+    let t = g.S.MemberStore.meaning c.store_stripe.new.store in
     let w = stripe_at g.L.Layout.arrangement m c.args.stripe in
     let k = cached_in c.args.cached.now in
     let l : c.args.stripe < blocks_of c.args.shape = omega arith in
@@ -26,7 +26,7 @@ returns-in-Ok g c =
 pub returns-in-Err : goal.returns-in-Err
 returns-in-Err g c =
     let s = g.S.MemberStore.meaning c.args.store.now in
-    let t = g.S.MemberStore.meaning c.store-stripe.new.store in
+    let t = g.S.MemberStore.meaning c.store_stripe.new.store in
     let w = stripe_at g.L.Layout.arrangement (members_of c.args.shape) c.args.stripe in
     let k = cached_in c.args.cached.now in
     let l : c.args.stripe < blocks_of c.args.shape = omega arith in

@@ -27,8 +27,8 @@ bounds-rows-count g c =
     let count : c.loop-member.count < 7 = subst (λ (n : ℕ). n < 7) (sym c.loop-member.invariant.3) few in
     omega (arith, c.loop-member.invariant.2)
 
-pub overflow-add-count : goal.overflow-add-count
-overflow-add-count g c =
+pub overflow_add-count : goal.overflow_add-count
+overflow_add-count g c =
     let s = g.S.MemberStore.meaning c.args.store.now in
     let b = c.args.absent.block in
     let d = c.args.absent.member in
@@ -53,16 +53,16 @@ loop-member-preserved g c =
           let r = v.in-default.ensures in
           let few = rest_room cell d c.args.members t c.requires.0 c.requires.1 c.loop-member-test.true ne in
           let long : length (without d (row_blocks t b s)) < length c.loop-member.rows = omega (arith, few, i.2) in
-          let got : v.read-block.new.into ≡ cell t = r.bytes.0 ∙ ap (λ u. current u t b) i.0 in
+          let got : v.read_block.new.into ≡ cell t = r.bytes.0 ∙ ap (λ u. current u t b) i.0 in
           let more : length (without d (row_blocks t b s)) + 1 ≡ length (without d (row_blocks (t + 1) b s)) = rest_count cell d t ne in
-          let row : take (length (without d (row_blocks t b s)) + 1) (set c.loop-member.rows (length (without d (row_blocks t b s))) v.read-block.new.into) ≡ without d (row_blocks (t + 1) b s) = rest_row cell d c.loop-member.rows t v.read-block.new.into ne long i.4 got in
+          let row : take (length (without d (row_blocks t b s)) + 1) (set c.loop-member.rows (length (without d (row_blocks t b s))) v.read_block.new.into) ≡ without d (row_blocks (t + 1) b s) = rest_row cell d c.loop-member.rows t v.read_block.new.into ne long i.4 got in
           simp (v.store-is, v.rows-is, v.count-is) (
             r.bytes.1 ∙ i.0,
-            more_other b d s t (g.S.MemberStore.meaning c.loop-member.store) (g.S.MemberStore.meaning v.read-block.new.store) ne i.0 r.bytes.1 r.calls i.1,
+            more_other b d s t (g.S.MemberStore.meaning c.loop-member.store) (g.S.MemberStore.meaning v.read_block.new.store) ne i.0 r.bytes.1 r.calls i.1,
             search rules,
             ap (λ (n : ℕ). n + 1) i.3 ∙ more,
-            subst (λ (n : ℕ). take n (set c.loop-member.rows c.loop-member.count v.read-block.new.into) ≡ without d (row_blocks (t + 1) b s)) more
-                (subst (λ (n : ℕ). take (length (without d (row_blocks t b s)) + 1) (set c.loop-member.rows n v.read-block.new.into) ≡ without d (row_blocks (t + 1) b s)) (sym i.3) row),
+            subst (λ (n : ℕ). take n (set c.loop-member.rows c.loop-member.count v.read_block.new.into) ≡ without d (row_blocks (t + 1) b s)) more
+                (subst (λ (n : ℕ). take (length (without d (row_blocks t b s)) + 1) (set c.loop-member.rows n v.read_block.new.into) ≡ without d (row_blocks (t + 1) b s)) (sym i.3) row),
           )
       | else-member-absent v ↦
           let e = v.if-member-absent.false in
@@ -80,7 +80,7 @@ pub returns-in-Err : goal.returns-in-Err
 returns-in-Err g c =
     let s = g.S.MemberStore.meaning c.args.store.now in
     record {
-      calls = stop_other c.args.absent.block c.args.absent.member s c.loop-member.member c.args.members (g.S.MemberStore.meaning c.loop-member.store) (g.S.MemberStore.meaning c.read-block.new.store) c.in-Err.e
+      calls = stop_other c.args.absent.block c.args.absent.member s c.loop-member.member c.args.members (g.S.MemberStore.meaning c.loop-member.store) (g.S.MemberStore.meaning c.read_block.new.store) c.in-Err.e
           c.loop-member-test.true c.if-member-absent.true c.loop-member.invariant.0 c.in-Err.ensures.calls c.loop-member.invariant.1;
       rows = tt;
     }

@@ -12,7 +12,7 @@ returns-in-Ok g c =
     record {
       calls = (simp (lt-ltb c.args.stripe (blocks_of c.args.shape) l), d.calls);
       told = d.found.0;
-      leaves = check_keeps (stripe_at g.L.Layout.arrangement (members_of c.args.shape) c.args.stripe) (g.S.MemberStore.meaning c.args.store.now) (g.S.MemberStore.meaning c.read-stripe.new.store) d.calls;
+      leaves = check_keeps (stripe_at g.L.Layout.arrangement (members_of c.args.shape) c.args.stripe) (g.S.MemberStore.meaning c.args.store.now) (g.S.MemberStore.meaning c.read_stripe.new.store) d.calls;
     }
 
 pub returns-in-Err : goal.returns-in-Err
@@ -22,5 +22,5 @@ returns-in-Err g c =
     record {
       calls = (simp (lt-ltb c.args.stripe (blocks_of c.args.shape) l), d.calls);
       told = tt;
-      leaves = check_cut (stripe_at g.L.Layout.arrangement (members_of c.args.shape) c.args.stripe) (g.S.MemberStore.meaning c.args.store.now) c.in-Err.e (g.S.MemberStore.meaning c.read-stripe.new.store) d.calls;
+      leaves = check_cut (stripe_at g.L.Layout.arrangement (members_of c.args.shape) c.args.stripe) (g.S.MemberStore.meaning c.args.store.now) c.in-Err.e (g.S.MemberStore.meaning c.read_stripe.new.store) d.calls;
     }

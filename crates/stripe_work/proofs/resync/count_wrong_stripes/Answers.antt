@@ -18,7 +18,7 @@ loop-stripe-preserved g c =
     let k = c.loop-stripe.stripe in
     let i = c.loop-stripe.invariant in
     let u = g.S.MemberStore.meaning c.loop-stripe.store in
-    let t = g.S.MemberStore.meaning c.read-stripe.new.store in
+    let t = g.S.MemberStore.meaning c.read_stripe.new.store in
     let d = c.in-Ok.ensures in
     let right : c.in-Ok.found.right ≡ parity_right (stripe_at a m k) s = d.found.0 ∙ ap (parity_right (stripe_at a m k)) i.0 in
     elim c.if-not-found.branch [
@@ -49,7 +49,7 @@ returns-in-Err g c =
     let s = g.S.MemberStore.meaning c.args.store.now in
     let i = c.loop-stripe.invariant in
     let u = g.S.MemberStore.meaning c.loop-stripe.store in
-    let t = g.S.MemberStore.meaning c.read-stripe.new.store in
+    let t = g.S.MemberStore.meaning c.read_stripe.new.store in
     let l : c.loop-stripe.stripe < blocks_of c.args.shape = omega arith in
     let d = scan_stops a m s (blocks_of c.args.shape) c.loop-stripe.stripe u c.in-Err.e t l i.0 i.1 c.in-Err.ensures.calls in
     record {

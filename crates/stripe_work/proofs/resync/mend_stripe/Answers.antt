@@ -7,7 +7,7 @@ use Rattle.stripe_work.proofs.resync.mend_stripe.Goals as goal
 pub returns-in-Err : goal.returns-in-Err
 returns-in-Err g c = record {
   calls = resync_stops_reading (stripe_at g.L.Layout.arrangement (members_of c.args.shape) c.args.stripe) (g.S.MemberStore.meaning c.args.store.now)
-      c.in-Err.e (g.S.MemberStore.meaning c.read-stripe.new.store) c.in-Err.ensures.calls;
+      c.in-Err.e (g.S.MemberStore.meaning c.read_stripe.new.store) c.in-Err.ensures.calls;
   told = tt;
 }
 
@@ -18,19 +18,19 @@ returns-then-found g c =
     let d = c.in-Ok.ensures in
     let q : parity_right w s ≡ true = sym d.found.0 ∙ c.if-found.true in
     record {
-      calls = resync_idle w s (g.S.MemberStore.meaning c.read-stripe.new.store) q d.calls;
+      calls = resync_idle w s (g.S.MemberStore.meaning c.read_stripe.new.store) q d.calls;
       told = sym (ap not q);
     }
 
-pub returns-in-Err-store-block : goal.returns-in-Err-store-block
-returns-in-Err-store-block g c =
+pub returns-in-Err-store_block : goal.returns-in-Err-store_block
+returns-in-Err-store_block g c =
     let w = stripe_at g.L.Layout.arrangement (members_of c.args.shape) c.args.stripe in
     let s = g.S.MemberStore.meaning c.args.store.now in
     let d = c.in-Ok.ensures in
     let q : parity_right w s ≡ false = sym d.found.0 ∙ c.if-found.false in
     record {
-      calls = resync_ends w s {U = Unit {0}} c.parity-place-at.result.member c.parity-place-at.result.block c.in-Ok.found.parity (g.S.MemberStore.meaning c.read-stripe.new.store) (g.S.MemberStore.meaning c.store-block.new.store) (Err c.in-Err-store-block.e)
-          q d.calls c.parity-place-at.ensures.member c.parity-place-at.ensures.block d.found.1 c.in-Err-store-block.ensures;
+      calls = resync_ends w s {U = Unit {0}} c.parity_place-at.result.member c.parity_place-at.result.block c.in-Ok.found.parity (g.S.MemberStore.meaning c.read_stripe.new.store) (g.S.MemberStore.meaning c.store_block.new.store) (Err c.in-Err-store_block.e)
+          q d.calls c.parity_place-at.ensures.member c.parity_place-at.ensures.block d.found.1 c.in-Err-store_block.ensures;
       told = tt;
     }
 
@@ -41,7 +41,7 @@ returns g c =
     let d = c.in-Ok.ensures in
     let q : parity_right w s ≡ false = sym d.found.0 ∙ c.if-found.false in
     record {
-      calls = resync_ends w s {U = Unit {0}} c.parity-place-at.result.member c.parity-place-at.result.block c.in-Ok.found.parity (g.S.MemberStore.meaning c.read-stripe.new.store) (g.S.MemberStore.meaning c.store-block.new.store) (Ok tt)
-          q d.calls c.parity-place-at.ensures.member c.parity-place-at.ensures.block d.found.1 c.in-default.ensures;
+      calls = resync_ends w s {U = Unit {0}} c.parity_place-at.result.member c.parity_place-at.result.block c.in-Ok.found.parity (g.S.MemberStore.meaning c.read_stripe.new.store) (g.S.MemberStore.meaning c.store_block.new.store) (Ok tt)
+          q d.calls c.parity_place-at.ensures.member c.parity_place-at.ensures.block d.found.1 c.in-default.ensures;
       told = sym (ap not q);
     }

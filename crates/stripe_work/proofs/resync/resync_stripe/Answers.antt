@@ -10,7 +10,7 @@ pub returns-in-Ok : goal.returns-in-Ok
 returns-in-Ok g c =
     let m = members_of c.args.shape in
     let s = g.S.MemberStore.meaning c.args.store.now in
-    let t = g.S.MemberStore.meaning c.mend-stripe.new.store in
+    let t = g.S.MemberStore.meaning c.mend_stripe.new.store in
     let w = stripe_at g.L.Layout.arrangement m c.args.stripe in
     let l : c.args.stripe < blocks_of c.args.shape = omega arith in
     let d = c.in-Ok.ensures in
@@ -24,7 +24,7 @@ returns-in-Ok g c =
 pub returns-in-Err : goal.returns-in-Err
 returns-in-Err g c =
     let s = g.S.MemberStore.meaning c.args.store.now in
-    let t = g.S.MemberStore.meaning c.mend-stripe.new.store in
+    let t = g.S.MemberStore.meaning c.mend_stripe.new.store in
     let w = stripe_at g.L.Layout.arrangement (members_of c.args.shape) c.args.stripe in
     let l : c.args.stripe < blocks_of c.args.shape = omega arith in
     let d = c.in-Err.ensures in

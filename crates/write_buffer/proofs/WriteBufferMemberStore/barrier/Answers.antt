@@ -9,15 +9,15 @@ pub returns : goal.returns
 returns g c =
     let mean = g.S.MemberStore.meaning in
     let w = c.args.self.now in
-    let u = c.pass-all.new.self in
-    let v = c.bar-below.new.self in
+    let u = c.pass_all.new.self in
+    let v = c.bar_below.new.self in
     let t = v.below in
-    let same = ap (λ x. vec_items x) c.bar-below.ensures.held in
+    let same = ap (λ x. vec_items x) c.bar_below.ensures.held in
     let held = vec_items w.held in
     let on : (mean w.below).on ≡ true = search rules in
     let passed : barrier_checks (buffered held (mean w.below)) ≡ None = simp on in
     let told = c.in-default.ensures in
     record {
-      means = rw (same ∙ told.none) (bars_then (buffered held (mean w.below)) (mean u.below) (mean t) c.bar-below.result on told.means c.bar-below.ensures.means);
-      own = bars_below mean g.S.MemberStore.storing g.S.MemberStore.barring c.bar-below.result held (vec_items v.held) w.below u.below t passed (rw (← same) at told.passes) c.bar-below.ensures.means c.bar-below.ensures.own_val;
+      means = rw (same ∙ told.none) (bars_then (buffered held (mean w.below)) (mean u.below) (mean t) c.bar_below.result on told.means c.bar_below.ensures.means);
+      own = bars_below mean g.S.MemberStore.storing g.S.MemberStore.barring c.bar_below.result held (vec_items v.held) w.below u.below t passed (rw (← same) at told.passes) c.bar_below.ensures.means c.bar_below.ensures.own_val;
     }

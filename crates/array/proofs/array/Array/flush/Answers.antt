@@ -6,52 +6,52 @@ use Rattle.array.proofs.Blocks.{ready_sound}
 use Rattle.array.proofs.Flushing.{flushes, flushed_sound}
 use Rattle.array.proofs.array.Array.flush.Goals as goal
 
-pub returns-in-Ok-flush-all : goal.returns-in-Ok-flush-all
-returns-in-Ok-flush-all g c =
+pub returns-in-Ok-flush_all : goal.returns-in-Ok-flush_all
+returns-in-Ok-flush_all g c =
     let q = c.args.self.now.state in
     let d = contents c.args.self.now.caches in
-    let d' = contents c.flush-all.new.caches in
+    let d' = contents c.flush_all.new.caches in
     let m = g.S.MemberStore.meaning c.args.self.now.store in
-    let m' = g.S.MemberStore.meaning c.flush-all.new.store in
+    let m' = g.S.MemberStore.meaning c.flush_all.new.store in
     let l = g.G.IntentLog.meaning c.args.self.now.log in
-    let l' = g.G.IntentLog.meaning c.flush-all.new.log in
+    let l' = g.G.IntentLog.meaning c.flush_all.new.log in
     let a = g.L.Layout.arrangement in
     let z = g.G.IntentLog.sound c.args.self.now.log in
-    let z' = g.G.IntentLog.sound c.flush-all.new.log in
+    let z' = g.G.IntentLog.sound c.flush_all.new.log in
     let f = c.in-Ok.ensures in
     let e = c.in-Ready.is in
-    let r = Ok c.in-Ok-flush-all.counts in
+    let r = Ok c.in-Ok-flush_all.counts in
     record {
       sound =
           λ h. let o = ready_sound q z m l e h in
-          flushed_sound a c.in-Ok.shape q d m l e f.1 f.2 d' m' l' r z z' (c.in-Ok-flush-all.ensures.sound o.0.0) q Ready e o (c.in-Ok-flush-all.ensures.does o.0.0 o.0.1);
+          flushed_sound a c.in-Ok.shape q d m l e f.1 f.2 d' m' l' r z z' (c.in-Ok-flush_all.ensures.sound o.0.0) q Ready e o (c.in-Ok-flush_all.ensures.does o.0.0 o.0.1);
       does =
           λ h. let o = ready_sound q z m l e h in
-          flushes a c.in-Ok.shape q d m l e f.1 f.2 d' m' l' r q Ready e (c.in-Ok-flush-all.ensures.does o.0.0 o.0.1);
+          flushes a c.in-Ok.shape q d m l e f.1 f.2 d' m' l' r q Ready e (c.in-Ok-flush_all.ensures.does o.0.0 o.0.1);
     }
 
-pub returns-in-Err-flush-all : goal.returns-in-Err-flush-all
-returns-in-Err-flush-all g c =
+pub returns-in-Err-flush_all : goal.returns-in-Err-flush_all
+returns-in-Err-flush_all g c =
     let q = c.args.self.now.state in
     let d = contents c.args.self.now.caches in
-    let d' = contents c.flush-all.new.caches in
+    let d' = contents c.flush_all.new.caches in
     let m = g.S.MemberStore.meaning c.args.self.now.store in
-    let m' = g.S.MemberStore.meaning c.flush-all.new.store in
+    let m' = g.S.MemberStore.meaning c.flush_all.new.store in
     let l = g.G.IntentLog.meaning c.args.self.now.log in
-    let l' = g.G.IntentLog.meaning c.flush-all.new.log in
+    let l' = g.G.IntentLog.meaning c.flush_all.new.log in
     let a = g.L.Layout.arrangement in
     let z = g.G.IntentLog.sound c.args.self.now.log in
-    let z' = g.G.IntentLog.sound c.flush-all.new.log in
+    let z' = g.G.IntentLog.sound c.flush_all.new.log in
     let f = c.in-Ok.ensures in
     let e = c.in-Ready.is in
-    let x = c.state-refused-self.result in
-    let y = state_told Ready c.in-Err-flush-all.cut in
-    let r = Err c.in-Err-flush-all.cut in
+    let x = c.state_refused-self.result in
+    let y = state_told Ready c.in-Err-flush_all.cut in
+    let r = Err c.in-Err-flush_all.cut in
     record {
       sound =
           λ h. let o = ready_sound q z m l e h in
-          flushed_sound a c.in-Ok.shape q d m l e f.1 f.2 d' m' l' r z z' (c.in-Err-flush-all.ensures.sound o.0.0) x y c.state-refused-self.ensures o (c.in-Err-flush-all.ensures.does o.0.0 o.0.1);
+          flushed_sound a c.in-Ok.shape q d m l e f.1 f.2 d' m' l' r z z' (c.in-Err-flush_all.ensures.sound o.0.0) x y c.state_refused-self.ensures o (c.in-Err-flush_all.ensures.does o.0.0 o.0.1);
       does =
           λ h. let o = ready_sound q z m l e h in
-          flushes a c.in-Ok.shape q d m l e f.1 f.2 d' m' l' r x y c.state-refused-self.ensures (c.in-Err-flush-all.ensures.does o.0.0 o.0.1);
+          flushes a c.in-Ok.shape q d m l e f.1 f.2 d' m' l' r x y c.state_refused-self.ensures (c.in-Err-flush_all.ensures.does o.0.0 o.0.1);
     }

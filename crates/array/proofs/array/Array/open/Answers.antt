@@ -15,7 +15,7 @@ returns-in-Ok g c =
     let l = g.G.IntentLog.meaning c.args.self.now.log in
     let a = g.L.Layout.arrangement in
     let z = g.G.IntentLog.sound c.args.self.now.log in
-    let e = sym c.nothing-taken.ensures in
+    let e = sym c.nothing_taken.ensures in
     record {
       sound = λ h. subst (λ x. SoundIn (Resync x) z m l) e (begun_sound q z m l c.in-Down.is c.in-Ok.ensures.sized h);
       does = λ h. subst (λ x. Opens (geometry_on a m) (array q d m l) (Ok tt) (array (Resync x) d m l)) e

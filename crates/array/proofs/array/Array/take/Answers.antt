@@ -10,7 +10,7 @@ returns-in-Ok g c =
     let d = contents c.args.self.now.caches in
     let m = g.S.MemberStore.meaning c.args.self.now.store in
     let l = g.G.IntentLog.meaning c.args.self.now.log in
-    let n = g.S.MemberStore.meaning c.take-stripe.new.store in
+    let n = g.S.MemberStore.meaning c.take_stripe.new.store in
     let a = g.L.Layout.arrangement in
     let p = c.args.progress in
     let k = c.args.stripe in
@@ -29,7 +29,7 @@ returns-in-Err g c =
     let d = contents c.args.self.now.caches in
     let m = g.S.MemberStore.meaning c.args.self.now.store in
     let l = g.G.IntentLog.meaning c.args.self.now.log in
-    let n = g.S.MemberStore.meaning c.take-stripe.new.store in
+    let n = g.S.MemberStore.meaning c.take_stripe.new.store in
     let a = g.L.Layout.arrangement in
     record {
       sound = λ on z bound above. tt;

@@ -2,8 +2,8 @@ use Rattle.cache.specs.declared.slot.Owner.TheVariants.{Buffering, Destaging}
 use Rattle.cache.proofs.Exchanges.{exchanged_length, exchanged_each_once, exchanged_contents}
 use Rattle.cache.proofs.caches.Caches.change_places.Goals as goal
 
-pub invariant-of-self : goal.invariant-of-self
-invariant-of-self c =
+pub invariant_of-self : goal.invariant_of-self
+invariant_of-self c =
     let s = c.args.self.now in
     let xs = s.slots in
     let ys = c.exchange.new.slots in

@@ -7,4 +7,4 @@ use Rattle.cache.proofs.caches.Caches.lowest_destaging_stripe.Goals as goal
 pub returns : goal.returns
 returns c =
     let a = c.args.shape in
-    lowest_from_zero (members_of a) (blocks_of a) (blocks Destaging c.args.self.now.slots) c.next-stripe.result c.next-stripe.ensures
+    lowest_from_zero (members_of a) (blocks_of a) (blocks Destaging c.args.self.now.slots) c.next_stripe.result c.next_stripe.ensures

@@ -16,7 +16,7 @@ returns c =
     let p = c.requires in
     let room : s.members * s.blocks * 512 ≤ length xs = omega (arith, s.bytes.ok.0, s.room) in
     let size : a + 512 - a ≡ 512 = omega arith in
-    let w : put_mid a (a + 512 - a) c.deref-mut.result.now c.copy-from-slice.new.self ≡ put_mid (offset s.blocks m b) 512 xs x = cc in
+    let w : put_mid a (a + 512 - a) c.deref_mut.result.now c.copy_from_slice.new.self ≡ put_mid (offset s.blocks m b) 512 xs x = cc in
     let long = ap length w ∙ length_written s.members s.blocks m b xs x (p.member, p.block) room p.whole ∙ sym s.bytes.ok.0 in
     let is = with_items_is s.bytes _ long ∙ w in
     record {

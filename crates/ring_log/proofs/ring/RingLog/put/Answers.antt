@@ -8,23 +8,23 @@ use Rattle.ring_log.proofs.ring.RingLog.put.Goals as goal
 pub returns-in-Err : goal.returns-in-Err
 returns-in-Err g c =
     let s = g.S.MemberStore.meaning c.args.self.now.store in
-    let t = g.S.MemberStore.meaning c.store-and-bar.new.store in
+    let t = g.S.MemberStore.meaning c.store_and_bar.new.store in
     let r = contents c.args.next in
     record {
       awake = refl;
-      calls = (c.in-Err.e, (refl, subst (λ (os : List DeviceCall). Stopped os s c.in-Err.e t) (put_list s c.members-members.result c.blocks-2.result c.slot-count.result c.version.result c.slot-for-slot.result r c.members-members.ensures c.blocks-2.ensures c.slot-count.ensures.count c.version.ensures c.slot-for-slot.ensures c.encode-bytes.result c.encode-bytes.ensures.bytes) c.in-Err.ensures));
-      valid = ap recorded (sym c.encode-bytes.ensures.bytes) ∙ c.encode-bytes.ensures.reads-back;
+      calls = (c.in-Err.e, (refl, subst (λ (os : List DeviceCall). Stopped os s c.in-Err.e t) (put_list s c.members-members.result c.blocks-2.result c.slot_count.result c.version.result c.slot_for-slot.result r c.members-members.ensures c.blocks-2.ensures c.slot_count.ensures.count c.version.ensures c.slot_for-slot.ensures c.encode-bytes.result c.encode-bytes.ensures.bytes) c.in-Err.ensures));
+      valid = ap recorded (sym c.encode-bytes.ensures.bytes) ∙ c.encode-bytes.ensures.reads_back;
       memory = refl;
     }
 
 pub returns : goal.returns
 returns g c =
     let s = g.S.MemberStore.meaning c.args.self.now.store in
-    let t = g.S.MemberStore.meaning c.store-and-bar.new.store in
+    let t = g.S.MemberStore.meaning c.store_and_bar.new.store in
     let r = contents c.args.next in
     record {
       awake = refl;
-      calls = subst (λ (os : List DeviceCall). Completed os s t) (put_list s c.members-members.result c.blocks-2.result c.slot-count.result c.version.result c.slot-for-slot.result r c.members-members.ensures c.blocks-2.ensures c.slot-count.ensures.count c.version.ensures c.slot-for-slot.ensures c.encode-bytes.result c.encode-bytes.ensures.bytes) c.in-default.ensures;
-      valid = ap recorded (sym c.encode-bytes.ensures.bytes) ∙ c.encode-bytes.ensures.reads-back;
-      memory = ap (λ (i : ℕ). Some (i, r)) (same_slot s c.members-members.result c.blocks-2.result c.slot-count.result c.version.result c.slot-for-slot.result r c.members-members.ensures c.blocks-2.ensures c.slot-count.ensures.count c.version.ensures c.slot-for-slot.ensures);
+      calls = subst (λ (os : List DeviceCall). Completed os s t) (put_list s c.members-members.result c.blocks-2.result c.slot_count.result c.version.result c.slot_for-slot.result r c.members-members.ensures c.blocks-2.ensures c.slot_count.ensures.count c.version.ensures c.slot_for-slot.ensures c.encode-bytes.result c.encode-bytes.ensures.bytes) c.in-default.ensures;
+      valid = ap recorded (sym c.encode-bytes.ensures.bytes) ∙ c.encode-bytes.ensures.reads_back;
+      memory = ap (λ (i : ℕ). Some (i, r)) (same_slot s c.members-members.result c.blocks-2.result c.slot_count.result c.version.result c.slot_for-slot.result r c.members-members.ensures c.blocks-2.ensures c.slot_count.ensures.count c.version.ensures c.slot_for-slot.ensures);
     }

@@ -24,4 +24,4 @@ returns c =
     let count = ap vec_len c.loop-i.invariant.0 in
     let le : length ws ≤ i = omega (arith, c.loop-i.self.writes.ok.0, count, c.len-i-end.ensures, c.loop-i-test.false) in
     let end : rebased bases (drop i ws) ≡ bases = at_drop_all (rebased bases) ws i le in
-    record { bases = ap vec_items c.empty-lists.ensures.bases ∙ sym end ∙ c.loop-i.invariant.1; lists = c.empty-lists.ensures.lists }
+    record { bases = ap vec_items c.empty_lists.ensures.bases ∙ sym end ∙ c.loop-i.invariant.1; lists = c.empty_lists.ensures.lists }

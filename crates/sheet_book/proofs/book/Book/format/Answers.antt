@@ -19,6 +19,6 @@ returns c =
     let at : i ≡ n = omega (arith, c.len-block-end.ensures, c.loop-block-test.false, c.loop-block.auto.block-end) in
     let le : length (vec_items bases) ≤ n = omega (arith, bases.ok.0) in
     record {
-      bases = ap vec_items c.empty-lists.ensures.bases ∙ c.loop-block.invariant ∙ ap (λ k. replicate k zeros ++ drop k (vec_items bases)) at ∙ ap (λ ys. replicate n zeros ++ ys) (drop_all n (vec_items bases) le) ∙ append-nil (replicate n zeros);
-      lists = c.empty-lists.ensures.lists;
+      bases = ap vec_items c.empty_lists.ensures.bases ∙ c.loop-block.invariant ∙ ap (λ k. replicate k zeros ++ drop k (vec_items bases)) at ∙ ap (λ ys. replicate n zeros ++ ys) (drop_all n (vec_items bases) le) ∙ append-nil (replicate n zeros);
+      lists = c.empty_lists.ensures.lists;
     }

@@ -8,6 +8,6 @@ returns-in-None g c =
     let w = c.args.self.now in
     let m = c.args.member in
     let b = c.args.block in
-    let x = c.copy-current.new.into in
+    let x = c.copy_current.new.into in
     let P : Meaning → Type 0 = λ s. HasBlock s m b → x ≡ current s m b in
-    under (vec_items w.held) (g.S.MemberStore.meaning w.below) m b x c.in-None.ensures (subst P (ap g.S.MemberStore.meaning c.below.ensures) c.copy-current.ensures)
+    under (vec_items w.held) (g.S.MemberStore.meaning w.below) m b x c.in-None.ensures (subst P (ap g.S.MemberStore.meaning c.below.ensures) c.copy_current.ensures)

@@ -7,8 +7,8 @@ use Rattle.stripe_set.proofs.set.StripeSet.from_slice.Goals as goal
 pub returns-then-list-gt-MOST : goal.returns-then-list-gt-MOST
 returns-then-list-gt-MOST c = too_long c.args.list.now (omega arith)
 
-pub returns-then-not-is-rising : goal.returns-then-not-is-rising
-returns-then-not-is-rising c = falling c.args.list.now (sym c.is-rising.ensures ∙ c.if-not-is-rising.true)
+pub returns-then-not-is_rising : goal.returns-then-not-is_rising
+returns-then-not-is_rising c = falling c.args.list.now (sym c.is_rising.ensures ∙ c.if-not-is_rising.true)
 
 pub loop-i-preserved : goal.loop-i-preserved
 loop-i-preserved c =
@@ -20,13 +20,13 @@ loop-i-preserved c =
 same : (items l : List ℕ) (i : ℕ) → take i items ≡ take i l → i ≤ length l → length l ≤ i → take (length l) items ≡ l
 same items l i e h k = let q : length l ≡ i = omega arith in ap (λ (n : ℕ). take n items) q ∙ e ∙ take_all i l k
 
-pub invariant-of-result : goal.invariant-of-result
-invariant-of-result c =
+pub invariant_of-result : goal.invariant_of-result
+invariant_of-result c =
     let v = c.loop-i in
     let l = c.args.list.now in
-    (v.invariant.0, (omega arith, (ap (rising 0) (same v.items l v.i v.invariant.1 v.auto.i-end c.loop-i-test.false) ∙ sym c.is-rising.ensures ∙ c.if-not-is-rising.false, tt)))
+    (v.invariant.0, (omega arith, (ap (rising 0) (same v.items l v.i v.invariant.1 v.auto.i-end c.loop-i-test.false) ∙ sym c.is_rising.ensures ∙ c.if-not-is_rising.false, tt)))
 
 pub returns : goal.returns
 returns c =
     let v = c.loop-i in
-    ap Some (same v.items c.args.list.now v.i v.invariant.1 v.auto.i-end c.loop-i-test.false) ∙ within c.args.list.now (omega arith) (sym c.is-rising.ensures ∙ c.if-not-is-rising.false)
+    ap Some (same v.items c.args.list.now v.i v.invariant.1 v.auto.i-end c.loop-i-test.false) ∙ within c.args.list.now (omega arith) (sym c.is_rising.ensures ∙ c.if-not-is_rising.false)

@@ -7,7 +7,7 @@ use Rattle.write_buffer.proofs.buffer.WriteBuffer.pass_all.Goals as goal
 pub returns-in-Some : goal.returns-in-Some
 returns-in-Some g c =
     let v = c.loop-self.self in
-    let u = c.pass-oldest.new.self in
+    let u = c.pass_oldest.new.self in
     let told = c.in-Some.ensures in
     record {
       passes = c.loop-self.invariant.2 _ (vec_items u.held) u.below (oldest_stops g.S.MemberStore.meaning g.S.MemberStore.storing (vec_items v.held) (vec_items u.held) v.below u.below c.in-Some.e told.passes);
@@ -18,7 +18,7 @@ returns-in-Some g c =
 pub loop-self-preserved : goal.loop-self-preserved
 loop-self-preserved g c =
     let v = c.loop-self.self in
-    let u = c.pass-oldest.new.self in
+    let u = c.pass_oldest.new.self in
     let told = c.in-default.ensures in
     (told.means.on ∙ c.loop-self.invariant.0, fewer_then _ _ _ c.loop-self.invariant.1 told.means, λ o left t p. c.loop-self.invariant.2 o left t (oldest_then_all g.S.MemberStore.meaning g.S.MemberStore.storing (vec_items v.held) (vec_items u.held) left v.below u.below t o told.passes p))
 
