@@ -12,16 +12,16 @@ returns-then-not-is_opened c =
     let bs = c.args.bytes.now in
     record { value = sym (shut bs (sym c.is_opened.ensures ∙ c.if-not-is_opened.true)); only_form = tt }
 
-pub returns-in-default : goal.returns-in-default
-returns-in-default c =
+pub returns-in_default : goal.returns-in_default
+returns-in_default c =
     let bs = c.args.bytes.now in
-    record { value = sym (no_version bs (sym c.is_opened.ensures ∙ c.if-not-is_opened.false) c.in-default.field-0 (rest_is bs 4 _ c.in-default.ensures.value)); only_form = tt }
+    record { value = sym (no_version bs (sym c.is_opened.ensures ∙ c.if-not-is_opened.false) c.in_default.field-0 (rest_is bs 4 _ c.in_default.ensures.value)); only_form = tt }
 
-pub returns-in-default-decode : goal.returns-in-default-decode
-returns-in-default-decode c =
+pub returns-in_default-decode : goal.returns-in_default-decode
+returns-in_default-decode c =
     let bs = c.args.bytes.now in
     let v = c.in-Ok.version in
-    record { value = sym (no_count bs (sym c.is_opened.ensures ∙ c.if-not-is_opened.false) v (rest_is bs 4 _ c.in-Ok.ensures.value) c.in-default-decode.field-0 (rest_is bs (4 + v.taken) _ c.in-default-decode.ensures.value)); only_form = tt }
+    record { value = sym (no_count bs (sym c.is_opened.ensures ∙ c.if-not-is_opened.false) v (rest_is bs 4 _ c.in-Ok.ensures.value) c.in_default-decode.field-0 (rest_is bs (4 + v.taken) _ c.in_default-decode.ensures.value)); only_form = tt }
 
 pub returns-then-not-is_allowed : goal.returns-then-not-is_allowed
 returns-then-not-is_allowed c =
@@ -29,11 +29,11 @@ returns-then-not-is_allowed c =
     let v = c.in-Ok.version in
     record { value = sym (refused bs (sym c.is_opened.ensures ∙ c.if-not-is_opened.false) v (rest_is bs 4 _ c.in-Ok.ensures.value) c.in-Ok-decode.count (rest_is bs (4 + v.taken) _ c.in-Ok-decode.ensures.value) (sym c.is_allowed.ensures ∙ c.if-not-is_allowed.true)); only_form = tt }
 
-pub returns-in-default-read_stripes : goal.returns-in-default-read_stripes
-returns-in-default-read_stripes c =
+pub returns-in_default-read_stripes : goal.returns-in_default-read_stripes
+returns-in_default-read_stripes c =
     let bs = c.args.bytes.now in
     let v = c.in-Ok.version in
-    record { value = sym (no_stripes bs (sym c.is_opened.ensures ∙ c.if-not-is_opened.false) v (rest_is bs 4 _ c.in-Ok.ensures.value) c.in-Ok-decode.count (rest_is bs (4 + v.taken) _ c.in-Ok-decode.ensures.value) (sym c.is_allowed.ensures ∙ c.if-not-is_allowed.false) c.in-default-read_stripes.ensures.value); only_form = tt }
+    record { value = sym (no_stripes bs (sym c.is_opened.ensures ∙ c.if-not-is_opened.false) v (rest_is bs 4 _ c.in-Ok.ensures.value) c.in-Ok-decode.count (rest_is bs (4 + v.taken) _ c.in-Ok-decode.ensures.value) (sym c.is_allowed.ensures ∙ c.if-not-is_allowed.false) c.in_default-read_stripes.ensures.value); only_form = tt }
 
 pub returns-then-not-all_zero : goal.returns-then-not-all_zero
 returns-then-not-all_zero c =
@@ -41,12 +41,12 @@ returns-then-not-all_zero c =
     let v = c.in-Ok.version in
     record { value = sym (not_zero bs (sym c.is_opened.ensures ∙ c.if-not-is_opened.false) v (rest_is bs 4 _ c.in-Ok.ensures.value) c.in-Ok-decode.count (rest_is bs (4 + v.taken) _ c.in-Ok-decode.ensures.value) (sym c.is_allowed.ensures ∙ c.if-not-is_allowed.false) (take c.in-Ok-decode.count.value c.read_stripes.new.out) c.in-Some.end c.in-Some.ensures.value (ap zeros (sym (take_rest bs c.in-Some.end)) ∙ sym c.all_zero.ensures ∙ c.if-not-all_zero.true)); only_form = tt }
 
-pub returns-in-default-from_slice : goal.returns-in-default-from_slice
-returns-in-default-from_slice c =
+pub returns-in_default-from_slice : goal.returns-in_default-from_slice
+returns-in_default-from_slice c =
     let bs = c.args.bytes.now in
     let n : ℕ = c.in-Ok-decode.count.value in
     let few : n ≤ 64 = allowed_count c.in-Ok.version.value n (sym c.is_allowed.ensures ∙ c.if-not-is_allowed.false) in
-    absurd (some≢none (sym (set_holds None c.read_stripes.new.out n c.in-default-from_slice.ensures few c.read_stripes.auto.out (read_rising n 0 0 bs _ _ c.in-Some.ensures.value))))
+    absurd (some≢none (sym (set_holds None c.read_stripes.new.out n c.in_default-from_slice.ensures few c.read_stripes.auto.out (read_rising n 0 0 bs _ _ c.in-Some.ensures.value))))
 
 pub returns : goal.returns
 returns c =

@@ -13,9 +13,9 @@ returns-then-absent-members g c =
     let d = c.args.absent in
     let lt : d < m.members = omega arith in
     record {
-      sized = whichever (Sized m) c.check_record.result c.in-default.ensures.0;
+      sized = whichever (Sized m) c.check_record.result c.in_default.ensures.0;
       checks =
           λ arrange q k h. c.check_record.ensures q k m h
           ∙ has_member (geometry_on arrange m) d (record_check (array q k m l)) lt
-          ∙ within_limits arrange m (option_or (member_check (geometry_on arrange m) d) (record_check (array q k m l))) c.in-default.ensures.0;
+          ∙ within_limits arrange m (option_or (member_check (geometry_on arrange m) d) (record_check (array q k m l))) c.in_default.ensures.0;
     }

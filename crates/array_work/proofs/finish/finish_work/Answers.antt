@@ -7,7 +7,7 @@ returns-in-Err-clear g c =
     let l = g.G.IntentLog.meaning c.args.log.now in
     record {
       sound = λ h. c.clear.ensures.sound h;
-      does = λ h. inr (u, l, ((u, c.in-default.ensures.means, refl), refl), inl (c.in-Err-clear.e, refl, refl, c.in-Err-clear.ensures.means h));
+      does = λ h. inr (u, l, ((u, c.in_default.ensures.means, refl), refl), inl (c.in-Err-clear.e, refl, refl, c.in-Err-clear.ensures.means h));
     }
 
 pub returns : goal.returns
@@ -17,5 +17,5 @@ returns g c =
     let k = g.G.IntentLog.meaning c.clear.new.self in
     record {
       sound = λ h. c.clear.ensures.sound h;
-      does = λ h. (refl, (u, l, ((u, c.in-default.ensures.means, refl), refl), (u, k, (refl, c.in-default-clear.ensures.means h), (refl, refl))));
+      does = λ h. (refl, (u, l, ((u, c.in_default.ensures.means, refl), refl), (u, k, (refl, c.in_default-clear.ensures.means h), (refl, refl))));
     }

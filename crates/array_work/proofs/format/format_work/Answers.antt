@@ -11,7 +11,7 @@ returns-in-Err-zero_members g c =
     let k = g.G.IntentLog.meaning c.blank.new.self in
     record {
       sound = λ h. c.blank.ensures.sound h;
-      does = λ arrange h. stopped_zeroing (sized arrange c.args.shape) m l k (c.in-default.ensures.means h) c.in-Err-zero_members.e n c.in-Err-zero_members.ensures;
+      does = λ arrange h. stopped_zeroing (sized arrange c.args.shape) m l k (c.in_default.ensures.means h) c.in-Err-zero_members.e n c.in-Err-zero_members.ensures;
     }
 
 pub returns-in-Err-barrier : goal.returns-in-Err-barrier
@@ -23,7 +23,7 @@ returns-in-Err-barrier g c =
     let k = g.G.IntentLog.meaning c.blank.new.self in
     record {
       sound = λ h. c.blank.ensures.sound h;
-      does = λ arrange h. stopped_barring (sized arrange c.args.shape) m l k (c.in-default.ensures.means h) u c.in-default-zero_members.ensures c.in-Err-barrier.e n c.in-Err-barrier.ensures.means;
+      does = λ arrange h. stopped_barring (sized arrange c.args.shape) m l k (c.in_default.ensures.means h) u c.in_default-zero_members.ensures c.in-Err-barrier.e n c.in-Err-barrier.ensures.means;
     }
 
 pub returns-in-Err-clear : goal.returns-in-Err-clear
@@ -36,7 +36,7 @@ returns-in-Err-clear g c =
     let j = g.G.IntentLog.meaning c.clear.new.self in
     record {
       sound = λ h. c.clear.ensures.sound (c.blank.ensures.sound h);
-      does = λ arrange h. stopped_clearing (sized arrange c.args.shape) m l k (c.in-default.ensures.means h) u c.in-default-zero_members.ensures n c.in-default-barrier.ensures.means c.in-Err-clear.e j (c.in-Err-clear.ensures.means (c.blank.ensures.sound h));
+      does = λ arrange h. stopped_clearing (sized arrange c.args.shape) m l k (c.in_default.ensures.means h) u c.in_default-zero_members.ensures n c.in_default-barrier.ensures.means c.in-Err-clear.e j (c.in-Err-clear.ensures.means (c.blank.ensures.sound h));
     }
 
 pub returns : goal.returns
@@ -49,5 +49,5 @@ returns g c =
     let j = g.G.IntentLog.meaning c.clear.new.self in
     record {
       sound = λ h. c.clear.ensures.sound (c.blank.ensures.sound h);
-      does = λ arrange h. (refl, formatted (sized arrange c.args.shape) m l k (c.in-default.ensures.means h) u c.in-default-zero_members.ensures n c.in-default-barrier.ensures.means j (c.in-default-clear.ensures.means (c.blank.ensures.sound h)));
+      does = λ arrange h. (refl, formatted (sized arrange c.args.shape) m l k (c.in_default.ensures.means h) u c.in_default-zero_members.ensures n c.in_default-barrier.ensures.means j (c.in_default-clear.ensures.means (c.blank.ensures.sound h)));
     }

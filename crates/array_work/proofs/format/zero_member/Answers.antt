@@ -10,7 +10,7 @@ loop-block-preserved g c =
     let u = g.S.MemberStore.meaning c.loop-block.store in
     let t = g.S.MemberStore.meaning c.store.new.self in
     for_each_more (λ b. store c.args.member b zeros ∷ []) c.loop-block.block (g.S.MemberStore.meaning c.args.store.now) u t c.loop-block.invariant
-    (zeroed c.args.member c.loop-block.block u t c.in-default.ensures.means)
+    (zeroed c.args.member c.loop-block.block u t c.in_default.ensures.means)
 
 pub returns-in-Err : goal.returns-in-Err
 returns-in-Err g c =

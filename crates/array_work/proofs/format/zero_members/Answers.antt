@@ -9,7 +9,7 @@ pub loop-member-preserved : goal.loop-member-preserved
 loop-member-preserved g c =
     let u = g.S.MemberStore.meaning c.loop-member.store in
     let t = g.S.MemberStore.meaning c.zero_member.new.store in
-    for_each_more (λ m. for_each (λ b. store m b zeros ∷ []) c.blocks-blocks.result) c.loop-member.member (g.S.MemberStore.meaning c.args.store.now) u t c.loop-member.invariant c.in-default.ensures
+    for_each_more (λ m. for_each (λ b. store m b zeros ∷ []) c.blocks-blocks.result) c.loop-member.member (g.S.MemberStore.meaning c.args.store.now) u t c.loop-member.invariant c.in_default.ensures
 
 pub returns-in-Err : goal.returns-in-Err
 returns-in-Err g c =

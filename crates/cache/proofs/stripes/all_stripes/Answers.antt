@@ -47,4 +47,4 @@ pub returns : goal.returns
 returns c =
     let a = c.args.shape in
     let i = c.loop-stripe.invariant in
-    listing_all (members_of a) (blocks_of a) (blocks c.args.owner c.args.slots.now) c.loop-stripe.from c.loop-stripe.count c.loop-stripe.numbers i.0 (omega (arith, i.1)) i.2 c.in-default.ensures
+    listing_all (members_of a) (blocks_of a) (blocks c.args.owner c.args.slots.now) c.loop-stripe.from c.loop-stripe.count c.loop-stripe.numbers i.0 (omega (arith, i.1)) i.2 c.in_default.ensures

@@ -26,7 +26,7 @@ returns g c =
     let s = g.S.MemberStore.meaning me.store in
     let t = g.S.MemberStore.meaning c.power_on.new.self in
     let u = g.S.MemberStore.meaning c.read.new.self in
-    let r = c.in-default.ensures.means in
+    let r = c.in_default.ensures.means in
     let at = first_block s (g.met.S.MemberStore.counts me.store) in
     record {
       sound = λ _. subst (λ x. Steady x c.record_in-self.result) (sym r.2) (power_steady s t me.awake at c.power_on.ensures.means c.record_in-self.result c.read.new.into c.record_in-self.ensures r.1);

@@ -7,5 +7,5 @@ returns g c =
     let blown = sym c.obey.ensures.blown in
     record {
       means = rw (below, blown) c.store.ensures.means;
-      own = (c.obey.new.self.fuse.left, rw (below, blown) c.store.ensures.own_val);
+      own = (c.obey.new.self.fuse.left, rw (below, blown) c.store.ensures.own);
     }

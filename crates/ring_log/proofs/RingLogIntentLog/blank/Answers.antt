@@ -51,9 +51,9 @@ returns-in-Err-barrier g c =
     let t = g.S.MemberStore.meaning c.barrier.new.self in
     let law = g.met.S.MemberStore.stands c.barrier.new.self in
     record {
-      sound = λ h. blank_sound s t me.awake next.awake b (kept next.standing) l law on aw h (Err (Store c.in-Err-barrier.e)) ((c.in-Err-barrier.e, (refl, blank_bar s b mm cnt keep em ec ek u c.in-default.ensures.calls c.in-Err-barrier.e t c.in-Err-barrier.ensures.means))) tt;
-      means = λ h. blank_means s t me.awake next.awake b (kept next.standing) l law on aw h (Err (Store c.in-Err-barrier.e)) ((c.in-Err-barrier.e, (refl, blank_bar s b mm cnt keep em ec ek u c.in-default.ensures.calls c.in-Err-barrier.e t c.in-Err-barrier.ensures.means)));
-      own = λ h. blank_own s t me.awake next.awake b (kept next.standing) l law on aw h (Err (Store c.in-Err-barrier.e)) ((c.in-Err-barrier.e, (refl, blank_bar s b mm cnt keep em ec ek u c.in-default.ensures.calls c.in-Err-barrier.e t c.in-Err-barrier.ensures.means)));
+      sound = λ h. blank_sound s t me.awake next.awake b (kept next.standing) l law on aw h (Err (Store c.in-Err-barrier.e)) ((c.in-Err-barrier.e, (refl, blank_bar s b mm cnt keep em ec ek u c.in_default.ensures.calls c.in-Err-barrier.e t c.in-Err-barrier.ensures.means))) tt;
+      means = λ h. blank_means s t me.awake next.awake b (kept next.standing) l law on aw h (Err (Store c.in-Err-barrier.e)) ((c.in-Err-barrier.e, (refl, blank_bar s b mm cnt keep em ec ek u c.in_default.ensures.calls c.in-Err-barrier.e t c.in-Err-barrier.ensures.means)));
+      own = λ h. blank_own s t me.awake next.awake b (kept next.standing) l law on aw h (Err (Store c.in-Err-barrier.e)) ((c.in-Err-barrier.e, (refl, blank_bar s b mm cnt keep em ec ek u c.in_default.ensures.calls c.in-Err-barrier.e t c.in-Err-barrier.ensures.means)));
     }
 
 pub returns-then-is_none : goal.returns-then-is_none
@@ -76,9 +76,9 @@ returns-then-is_none g c =
     let law = g.met.S.MemberStore.stands c.barrier.new.self in
     let pr : present b ≡ false = ap (λ z. present (kept z)) (sym c.zero_slots.ensures.same.1) ∙ kept_present next.standing ∙ c.is_none.ensures ∙ ap not c.if-is_none.true in
     record {
-      sound = λ h. blank_sound s t me.awake next.awake b (kept next.standing) l law on aw h (Ok tt) (blank_none s b mm cnt keep em ec ek u c.in-default.ensures.calls t c.in-default-barrier.ensures.means pr) (none_kept next.standing (c.is_none.ensures ∙ ap not c.if-is_none.true));
-      means = λ h. blank_means s t me.awake next.awake b (kept next.standing) l law on aw h (Ok tt) (blank_none s b mm cnt keep em ec ek u c.in-default.ensures.calls t c.in-default-barrier.ensures.means pr);
-      own = λ h. blank_own s t me.awake next.awake b (kept next.standing) l law on aw h (Ok tt) (blank_none s b mm cnt keep em ec ek u c.in-default.ensures.calls t c.in-default-barrier.ensures.means pr);
+      sound = λ h. blank_sound s t me.awake next.awake b (kept next.standing) l law on aw h (Ok tt) (blank_none s b mm cnt keep em ec ek u c.in_default.ensures.calls t c.in_default-barrier.ensures.means pr) (none_kept next.standing (c.is_none.ensures ∙ ap not c.if-is_none.true));
+      means = λ h. blank_means s t me.awake next.awake b (kept next.standing) l law on aw h (Ok tt) (blank_none s b mm cnt keep em ec ek u c.in_default.ensures.calls t c.in_default-barrier.ensures.means pr);
+      own = λ h. blank_own s t me.awake next.awake b (kept next.standing) l law on aw h (Ok tt) (blank_none s b mm cnt keep em ec ek u c.in_default.ensures.calls t c.in_default-barrier.ensures.means pr);
     }
 
 pub returns-in-Err-store_and_bar : goal.returns-in-Err-store_and_bar
@@ -102,9 +102,9 @@ returns-in-Err-store_and_bar g c =
     let v = g.S.MemberStore.meaning c.barrier.new.self in
     let pr : present b ≡ true = ap (λ z. present (kept z)) (sym c.zero_slots.ensures.same.1) ∙ kept_present next.standing ∙ c.is_none.ensures ∙ ap not c.if-is_none.false in
     record {
-      sound = λ h. blank_sound s t me.awake next.awake b (kept next.standing) l law on aw h (Err (Store c.in-Err-store_and_bar.e)) ((c.in-Err-store_and_bar.e, (refl, blank_stop s b mm cnt keep em ec ek u c.in-default.ensures.calls v c.in-default-barrier.ensures.means pr c.in-Err-store_and_bar.e t c.in-Err-store_and_bar.ensures))) tt;
-      means = λ h. blank_means s t me.awake next.awake b (kept next.standing) l law on aw h (Err (Store c.in-Err-store_and_bar.e)) ((c.in-Err-store_and_bar.e, (refl, blank_stop s b mm cnt keep em ec ek u c.in-default.ensures.calls v c.in-default-barrier.ensures.means pr c.in-Err-store_and_bar.e t c.in-Err-store_and_bar.ensures)));
-      own = λ h. blank_own s t me.awake next.awake b (kept next.standing) l law on aw h (Err (Store c.in-Err-store_and_bar.e)) ((c.in-Err-store_and_bar.e, (refl, blank_stop s b mm cnt keep em ec ek u c.in-default.ensures.calls v c.in-default-barrier.ensures.means pr c.in-Err-store_and_bar.e t c.in-Err-store_and_bar.ensures)));
+      sound = λ h. blank_sound s t me.awake next.awake b (kept next.standing) l law on aw h (Err (Store c.in-Err-store_and_bar.e)) ((c.in-Err-store_and_bar.e, (refl, blank_stop s b mm cnt keep em ec ek u c.in_default.ensures.calls v c.in_default-barrier.ensures.means pr c.in-Err-store_and_bar.e t c.in-Err-store_and_bar.ensures))) tt;
+      means = λ h. blank_means s t me.awake next.awake b (kept next.standing) l law on aw h (Err (Store c.in-Err-store_and_bar.e)) ((c.in-Err-store_and_bar.e, (refl, blank_stop s b mm cnt keep em ec ek u c.in_default.ensures.calls v c.in_default-barrier.ensures.means pr c.in-Err-store_and_bar.e t c.in-Err-store_and_bar.ensures)));
+      own = λ h. blank_own s t me.awake next.awake b (kept next.standing) l law on aw h (Err (Store c.in-Err-store_and_bar.e)) ((c.in-Err-store_and_bar.e, (refl, blank_stop s b mm cnt keep em ec ek u c.in_default.ensures.calls v c.in_default-barrier.ensures.means pr c.in-Err-store_and_bar.e t c.in-Err-store_and_bar.ensures)));
     }
 
 pub returns : goal.returns
@@ -128,7 +128,7 @@ returns g c =
     let v = g.S.MemberStore.meaning c.barrier.new.self in
     let pr : present b ≡ true = ap (λ z. present (kept z)) (sym c.zero_slots.ensures.same.1) ∙ kept_present next.standing ∙ c.is_none.ensures ∙ ap not c.if-is_none.false in
     record {
-      sound = λ h. blank_sound s t me.awake next.awake b None l law on aw h (Ok tt) (blank_all s b mm cnt keep em ec ek u c.in-default.ensures.calls v c.in-default-barrier.ensures.means pr t c.in-default-store_and_bar.ensures) refl;
-      means = λ h. blank_means s t me.awake next.awake b None l law on aw h (Ok tt) (blank_all s b mm cnt keep em ec ek u c.in-default.ensures.calls v c.in-default-barrier.ensures.means pr t c.in-default-store_and_bar.ensures);
-      own = λ h. blank_own s t me.awake next.awake b None l law on aw h (Ok tt) (blank_all s b mm cnt keep em ec ek u c.in-default.ensures.calls v c.in-default-barrier.ensures.means pr t c.in-default-store_and_bar.ensures);
+      sound = λ h. blank_sound s t me.awake next.awake b None l law on aw h (Ok tt) (blank_all s b mm cnt keep em ec ek u c.in_default.ensures.calls v c.in_default-barrier.ensures.means pr t c.in_default-store_and_bar.ensures) refl;
+      means = λ h. blank_means s t me.awake next.awake b None l law on aw h (Ok tt) (blank_all s b mm cnt keep em ec ek u c.in_default.ensures.calls v c.in_default-barrier.ensures.means pr t c.in_default-store_and_bar.ensures);
+      own = λ h. blank_own s t me.awake next.awake b None l law on aw h (Ok tt) (blank_all s b mm cnt keep em ec ek u c.in_default.ensures.calls v c.in_default-barrier.ensures.means pr t c.in_default-store_and_bar.ensures);
     }

@@ -54,7 +54,7 @@ loop-i-preserved g c =
     let w = g.S.MemberStore.meaning v.self.store in
     let u = g.S.MemberStore.meaning c.read.new.self in
     let mm = c.members-members.result in
-    let r = c.in-default.ensures.means in
+    let r = c.in_default.ensures.means in
     let into : c.read.new.into ≡ current t (v.i % mm) (v.i / mm) = r.1 ∙ ap (λ x. current x (v.i % mm) (v.i / mm)) v.invariant.2 in (
       c.read.auto.into ∙ v.invariant.0,
       v.invariant.1,

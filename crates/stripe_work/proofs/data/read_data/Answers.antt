@@ -7,7 +7,7 @@ use Rattle.stripe_work.specs.Work.{cached_in, uncached_read, merged}
 use Rattle.stripe_work.proofs.Rows.{row_more}
 use Rattle.stripe_work.proofs.Turns.{pass_read, more_read, stop_read, merged_cached, merged_read}
 use Rattle.stripe_work.proofs.data.read_data.Goals as goal
-use Rattle.stripe_work.proofs.data.read_data.Goals.{in-Some, in-None+in-default}
+use Rattle.stripe_work.proofs.data.read_data.Goals.{in-Some, in-None+in_default}
 
 pub loop-position-init : goal.loop-position-init
 loop-position-init g c = (refl, refl, c.told-rows, refl)
@@ -28,8 +28,8 @@ loop-position-preserved g c =
             search rules,
             row_more (merged w k s) c.loop-position.rows j v.in-Some.block long i.3 (merged_cached w k s j v.in-Some.block v.in-Some.is),
           )
-      | in-None+in-default v ↦
-          let r = v.in-default.ensures in
+      | in-None+in_default v ↦
+          let r = v.in_default.ensures in
           let a = v.data_place-at.ensures in
           let got : v.read_block.new.into ≡ data_at w s j = r.bytes.0 ∙ ap (λ u. current u v.data_place-at.result.member v.data_place-at.result.block) i.0 ∙ ap (λ (m : ℕ). current s m v.data_place-at.result.block) a.member ∙ ap (λ (b : ℕ). current s (w.member j) b) a.block in
           simp (v.store-is, v.rows-is) (

@@ -5,7 +5,7 @@ use Rattle.stripe_work.specs.Stripe.{stripe_at}
 use Rattle.stripe_work.specs.Work.{cached_in, cached_store}
 use Rattle.stripe_work.proofs.Turns.{pass_store, more_store, stop_store}
 use Rattle.stripe_work.proofs.data.store_cached.Goals as goal
-use Rattle.stripe_work.proofs.data.store_cached.Goals.{in-Some+in-default-store_block, in-default}
+use Rattle.stripe_work.proofs.data.store_cached.Goals.{in-Some+in_default-store_block, in_default}
 
 pub loop-position-preserved : goal.loop-position-preserved
 loop-position-preserved g c =
@@ -14,11 +14,11 @@ loop-position-preserved g c =
     let k = cached_in c.args.cached.now in
     let j = c.loop-position.position in
     elim c.match-cached-position.branch [
-      | in-Some+in-default-store_block v ↦
+      | in-Some+in_default-store_block v ↦
           simp v.store-is
           (more_store w k s j v.data_place-at.result.member v.data_place-at.result.block v.in-Some.block (g.S.MemberStore.meaning c.loop-position.store) (g.S.MemberStore.meaning v.store_block.new.store)
-          v.in-Some.is v.data_place-at.ensures.member v.data_place-at.ensures.block v.in-default-store_block.ensures c.loop-position.invariant)
-      | in-default v ↦
+          v.in-Some.is v.data_place-at.ensures.member v.data_place-at.ensures.block v.in_default-store_block.ensures c.loop-position.invariant)
+      | in_default v ↦
           let none : k j ≡ None = search rules in
           simp v.store-is (pass_store w k s j (g.S.MemberStore.meaning c.loop-position.store) none c.loop-position.invariant)
     ]

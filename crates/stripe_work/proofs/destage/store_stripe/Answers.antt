@@ -14,13 +14,13 @@ returns-in-Err g c =
 pub returns-in-Err-store_cached : goal.returns-in-Err-store_cached
 returns-in-Err-store_cached g c =
     destage_stops_storing (stripe_at g.L.Layout.arrangement (members_of c.args.shape) c.args.stripe) (cached_in c.args.cached.now) (g.S.MemberStore.meaning c.args.store.now)
-    (g.S.MemberStore.meaning c.read_data.new.store) c.in-Err-store_cached.e (g.S.MemberStore.meaning c.store_cached.new.store) c.in-default.ensures.calls c.in-Err-store_cached.ensures
+    (g.S.MemberStore.meaning c.read_data.new.store) c.in-Err-store_cached.e (g.S.MemberStore.meaning c.store_cached.new.store) c.in_default.ensures.calls c.in-Err-store_cached.ensures
 
 pub returns : goal.returns
 returns g c =
     let count : c.positions.result ≡ members_of c.args.shape - 1 = omega arith in
-    let sum = c.parity_of_rows-sum.ensures ∙ ap (λ (n : ℕ). parity_of (take n c.read_data.new.rows)) count ∙ ap parity_of c.in-default.ensures.rows in
+    let sum = c.parity_of_rows-sum.ensures ∙ ap (λ (n : ℕ). parity_of (take n c.read_data.new.rows)) count ∙ ap parity_of c.in_default.ensures.rows in
     destage_ends (stripe_at g.L.Layout.arrangement (members_of c.args.shape) c.args.stripe) (cached_in c.args.cached.now) (g.S.MemberStore.meaning c.args.store.now)
     c.parity_place-at.result.member c.parity_place-at.result.block c.parity_of_rows-sum.result
     (g.S.MemberStore.meaning c.read_data.new.store) (g.S.MemberStore.meaning c.store_cached.new.store) (g.S.MemberStore.meaning c.store_block.new.store) c.store_block.result
-    c.in-default.ensures.calls c.in-default-store_cached.ensures c.parity_place-at.ensures.member c.parity_place-at.ensures.block sum c.store_block.ensures
+    c.in_default.ensures.calls c.in_default-store_cached.ensures c.parity_place-at.ensures.member c.parity_place-at.ensures.block sum c.store_block.ensures

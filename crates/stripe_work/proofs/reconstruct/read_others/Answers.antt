@@ -7,7 +7,7 @@ use Rattle.stripe_work.specs.Work.{other_reads}
 use Rattle.stripe_work.proofs.Without.{rest_absent, rest_length, rest_room, rest_row, rest_count}
 use Rattle.stripe_work.proofs.Recovering.{pass_absent, more_other, stop_other}
 use Rattle.stripe_work.proofs.reconstruct.read_others.Goals as goal
-use Rattle.stripe_work.proofs.reconstruct.read_others.Goals.{then-member-absent+in-default, else-member-absent}
+use Rattle.stripe_work.proofs.reconstruct.read_others.Goals.{then-member-absent+in_default, else-member-absent}
 
 pub offset-bounds-rows-count : goal.offset-bounds-rows-count
 offset-bounds-rows-count g c =
@@ -48,9 +48,9 @@ loop-member-preserved g c =
     let i = c.loop-member.invariant in
     let cell : ℕ → List ℕ = (λ t. current s t b) in
     elim c.if-member-absent.branch [
-      | then-member-absent+in-default v ↦
+      | then-member-absent+in_default v ↦
           let ne = v.if-member-absent.true in
-          let r = v.in-default.ensures in
+          let r = v.in_default.ensures in
           let few = rest_room cell d c.args.members t c.requires.0 c.requires.1 c.loop-member-test.true ne in
           let long : length (without d (row_blocks t b s)) < length c.loop-member.rows = omega (arith, few, i.2) in
           let got : v.read_block.new.into ≡ cell t = r.bytes.0 ∙ ap (λ u. current u t b) i.0 in

@@ -61,9 +61,9 @@ returns g c =
     let d = c.args.absent.member in
     let l : d < m = omega arith in
     let e : c.get-members.result ≡ m = omega arith in
-    let k = subst (λ (n : ℕ). Completed (other_reads n b d) s t) e c.in-default.ensures.calls in
+    let k = subst (λ (n : ℕ). Completed (other_reads n b d) s t) e c.in_default.ensures.calls in
     let sum : c.missing_block.new.into ≡ parity_of (take (c.get-members.result - 1) c.read_others.new.rows) = search rules in
-    let bytes : c.missing_block.new.into ≡ reconstructed m b d s = sum ∙ ap parity_of c.in-default.ensures.rows ∙ ap (λ (n : ℕ). parity_of (without d (row_blocks n b s))) e in
+    let bytes : c.missing_block.new.into ≡ reconstructed m b d s = sum ∙ ap parity_of c.in_default.ensures.rows ∙ ap (λ (n : ℕ). parity_of (without d (row_blocks n b s))) e in
     let w = stripe_at g.L.Layout.arrangement m b in
     let lawful = g.met.L.Layout.lawful m b c.args.shape.members.least c.args.shape.members.most in
     record {

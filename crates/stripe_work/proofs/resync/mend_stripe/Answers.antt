@@ -42,6 +42,6 @@ returns g c =
     let q : parity_right w s ≡ false = sym d.found.0 ∙ c.if-found.false in
     record {
       calls = resync_ends w s {U = Unit {0}} c.parity_place-at.result.member c.parity_place-at.result.block c.in-Ok.found.parity (g.S.MemberStore.meaning c.read_stripe.new.store) (g.S.MemberStore.meaning c.store_block.new.store) (Ok tt)
-          q d.calls c.parity_place-at.ensures.member c.parity_place-at.ensures.block d.found.1 c.in-default.ensures;
+          q d.calls c.parity_place-at.ensures.member c.parity_place-at.ensures.block d.found.1 c.in_default.ensures;
       told = sym (ap not q);
     }

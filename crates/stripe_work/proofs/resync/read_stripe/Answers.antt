@@ -19,7 +19,7 @@ pub returns-in-Err-read_block : goal.returns-in-Err-read_block
 returns-in-Err-read_block g c = record {
   calls = check_ends (stripe_at g.L.Layout.arrangement (members_of c.args.shape) c.args.stripe) (g.S.MemberStore.meaning c.args.store.now) {U = Unit {0}}
       c.parity_place-at.result.member c.parity_place-at.result.block (g.S.MemberStore.meaning c.read_data.new.store) (g.S.MemberStore.meaning c.read_block.new.store) (Err c.in-Err-read_block.e)
-      c.in-default.ensures.calls c.parity_place-at.ensures.member c.parity_place-at.ensures.block c.in-Err-read_block.ensures.calls;
+      c.in_default.ensures.calls c.parity_place-at.ensures.member c.parity_place-at.ensures.block c.in-Err-read_block.ensures.calls;
   found = tt;
 }
 
@@ -29,9 +29,9 @@ returns g c =
     let s = g.S.MemberStore.meaning c.args.store.now in
     let u = g.S.MemberStore.meaning c.read_data.new.store in
     let t = g.S.MemberStore.meaning c.read_block.new.store in
-    let r = c.in-default.ensures in
+    let r = c.in_default.ensures in
     let a = c.parity_place-at in
-    let k = c.in-default-read_block.ensures in
+    let k = c.in_default-read_block.ensures in
     let count : c.positions.result ≡ members_of c.args.shape - 1 = omega arith in
     let sum = c.parity_of_rows-parity.ensures ∙ ap (λ (n : ℕ). parity_of (take n c.read_data.new.rows)) count ∙ ap parity_of (r.rows ∙ same_data w 7 s) in
     record {

@@ -9,5 +9,5 @@ returns g c =
     let told = simp same at c.power_on.ensures.means in
     record {
       means = rw none (powered_under (vec_items c.args.self.now.held) _ _ told);
-      own = (none, told, simp same at c.power_on.ensures.own_val);
+      own = (none, told, simp same at c.power_on.ensures.own);
     }

@@ -9,7 +9,7 @@ pub returns-in-Some-make_room : goal.returns-in-Some-make_room
 returns-in-Some-make_room g c =
     let w = c.args.self.now in
     let u = c.make_room.new.self in
-    let passed = sym c.in-default.ensures in
+    let passed = sym c.in_default.ensures in
     let told = c.in-Some-make_room.ensures in
     record {
       means = refused_went _ _ _ _ passed (told.means.0, cut_store _ _ _ _ _ told.means.1);
@@ -25,8 +25,8 @@ returns g c =
     let m = c.args.member in
     let b = c.args.block in
     let x = c.args.bytes.now in
-    let passed = sym c.in-default.ensures in
-    let told = c.in-default-make_room.ensures in
+    let passed = sym c.in_default.ensures in
+    let told = c.in_default-make_room.ensures in
     record {
       means = (passed, stored_then (buffered (vec_items w.held) (mean w.below)) (buffered (vec_items u.held) (mean u.below)) (buffered (vec_items v.held) (mean v.below)) told.means m b x c.hold.ensures.stored);
       own = stores_held mean g.S.MemberStore.storing m b x (vec_items w.held) (vec_items u.held) (vec_items v.held) w.below u.below v.below passed told.makes c.hold.ensures.appended c.hold.ensures.below;

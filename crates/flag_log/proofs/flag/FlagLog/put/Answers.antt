@@ -19,6 +19,6 @@ returns g c =
     let t = g.S.MemberStore.meaning c.store_record.new.store in
     record {
       awake = refl;
-      calls = subst (λ (x : List ℕ). Makes {U = Unit {0}} (device.store 0 0 x ∷ device.barrier ∷ []) s (Ok tt) t) c.block_of.ensures c.in-default.ensures;
+      calls = subst (λ (x : List ℕ). Makes {U = Unit {0}} (device.store 0 0 x ∷ device.barrier ∷ []) s (Ok tt) t) c.block_of.ensures c.in_default.ensures;
       memory = refl;
     }

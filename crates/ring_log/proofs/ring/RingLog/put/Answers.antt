@@ -24,7 +24,7 @@ returns g c =
     let r = contents c.args.next in
     record {
       awake = refl;
-      calls = subst (λ (os : List DeviceCall). Completed os s t) (put_list s c.members-members.result c.blocks-2.result c.slot_count.result c.version.result c.slot_for-slot.result r c.members-members.ensures c.blocks-2.ensures c.slot_count.ensures.count c.version.ensures c.slot_for-slot.ensures c.encode-bytes.result c.encode-bytes.ensures.bytes) c.in-default.ensures;
+      calls = subst (λ (os : List DeviceCall). Completed os s t) (put_list s c.members-members.result c.blocks-2.result c.slot_count.result c.version.result c.slot_for-slot.result r c.members-members.ensures c.blocks-2.ensures c.slot_count.ensures.count c.version.ensures c.slot_for-slot.ensures c.encode-bytes.result c.encode-bytes.ensures.bytes) c.in_default.ensures;
       valid = ap recorded (sym c.encode-bytes.ensures.bytes) ∙ c.encode-bytes.ensures.reads_back;
       memory = ap (λ (i : ℕ). Some (i, r)) (same_slot s c.members-members.result c.blocks-2.result c.slot_count.result c.version.result c.slot_for-slot.result r c.members-members.ensures c.blocks-2.ensures c.slot_count.ensures.count c.version.ensures c.slot_for-slot.ensures);
     }

@@ -25,4 +25,4 @@ loop-i-preserved g c =
     let s = g.S.MemberStore.meaning c.args.self.now.store in
     let u = g.S.MemberStore.meaning c.loop-i.self.store in
     let t = g.S.MemberStore.meaning c.store.new.self in
-    (c.loop-i.invariant.0, c.loop-i.invariant.1, for_each_more (zero_slot c.args.members c.args.keep) c.loop-i.i s u t c.loop-i.invariant.2 (zero_done c.args.members c.args.keep c.loop-i.i u t c.if-i-keep.false c.in-default.ensures.means))
+    (c.loop-i.invariant.0, c.loop-i.invariant.1, for_each_more (zero_slot c.args.members c.args.keep) c.loop-i.i s u t c.loop-i.invariant.2 (zero_done c.args.members c.args.keep c.loop-i.i u t c.if-i-keep.false c.in_default.ensures.means))

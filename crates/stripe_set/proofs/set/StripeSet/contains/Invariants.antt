@@ -3,4 +3,4 @@ use Rattle.stripe_set.specs.Named.{named}
 use Rattle.stripe_set.proofs.set.StripeSet.contains.Given as goal
 
 abbrev pub invariant-loop-s : goal.invariant-loop-s
-invariant-loop-s l = named l.stripe l.own_val ≡ named l.stripe (drop l.s-index l.own_val)
+invariant-loop-s l = named l.stripe l.own ≡ named l.stripe (drop l.s-index l.own)

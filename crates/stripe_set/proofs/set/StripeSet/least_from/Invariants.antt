@@ -3,4 +3,4 @@ use Rattle.stripe_set.specs.Named.{named}
 use Rattle.stripe_set.proofs.set.StripeSet.least_from.Given as goal
 
 abbrev pub invariant-loop-s : goal.invariant-loop-s
-invariant-loop-s l = (s : ℕ) → l.at ≤ s → named s l.own_val ≡ named s (drop l.s-index l.own_val)
+invariant-loop-s l = (s : ℕ) → l.at ≤ s → named s l.own ≡ named s (drop l.s-index l.own)

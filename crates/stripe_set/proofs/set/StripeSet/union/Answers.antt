@@ -5,7 +5,7 @@ use Rattle.stripe_set.specs.Rising.{rising}
 use Rattle.stripe_set.specs.Union.{merged}
 use Rattle.stripe_set.proofs.Lists.{too_many, too_long, within, merged_both, same_merged, stepping, all_taken, own_only, list_only, own_first, both_first, list_first, merged_rising}
 use Rattle.stripe_set.proofs.set.StripeSet.union.Goals as goal
-use Rattle.stripe_set.proofs.set.StripeSet.union.Goals.{then-i-own, else-i-own+then-j-list, then_j_list_2, else-j-list-2+then-i-own-2, else-j-list-2+else-i-own-2+then-own-i, else-j-list-2+else-i-own-2+else-own-i+then-own-i-2, else-j-list-2+else-i-own-2+else-own-i+else-own-i-2}
+use Rattle.stripe_set.proofs.set.StripeSet.union.Goals.{then-i-own, else-i-own+then-j-list, then-j-list-2, else-j-list-2+then-i-own-2, else-j-list-2+else-i-own-2+then-own-i, else-j-list-2+else-i-own-2+else-own-i+then-own-i-2, else-j-list-2+else-i-own-2+else-own-i+else-own-i-2}
 
 pub returns-then-len-eq-MOST : goal.returns-then-len-eq-MOST
 returns-then-len-eq-MOST c =
@@ -31,7 +31,7 @@ loop-i-preserved c =
     let v3 : j ≤ length list = v.invariant.3 in
     let some : (i < length own) ⊎ (j < length list) = elim c.if-i-own.branch [ then-i-own w ↦ inl w.if-i-own.true | else-i-own+then-j-list w ↦ inr w.if-j-list.true ] in
     elim c.if-j-list-2.branch [
-      | then_j_list_2 w ↦ let jj : j ≡ length list = w.if-j-list-2.true in let ii : i < length own = elim some [ inl k ↦ k | inr k ↦ absurd (omega arith) ] in stepping v.items u.items own list v.len i j (i + 1) j u.i u.j (get_or own i 0) v.invariant c.if-len-eq-MOST.false w.items-is w.i-is w.j-is (omega arith) v3 (own_only own list i j ii (omega arith))
+      | then-j-list-2 w ↦ let jj : j ≡ length list = w.if-j-list-2.true in let ii : i < length own = elim some [ inl k ↦ k | inr k ↦ absurd (omega arith) ] in stepping v.items u.items own list v.len i j (i + 1) j u.i u.j (get_or own i 0) v.invariant c.if-len-eq-MOST.false w.items-is w.i-is w.j-is (omega arith) v3 (own_only own list i j ii (omega arith))
       | else-j-list-2+then-i-own-2 w ↦ let jj = w.if-j-list-2.false in let ii : i ≡ length own = w.if-i-own-2.true in stepping v.items u.items own list v.len i j i (j + 1) u.i u.j (get_or list j 0) v.invariant c.if-len-eq-MOST.false w.items-is w.i-is w.j-is v2 (omega arith) (list_only own list i j (omega arith) (omega arith))
       | else-j-list-2+else-i-own-2+then-own-i w ↦ let jj = w.if-j-list-2.false in let ii = w.if-i-own-2.false in stepping v.items u.items own list v.len i j (i + 1) j u.i u.j (get_or own i 0) v.invariant c.if-len-eq-MOST.false w.items-is w.i-is w.j-is (omega arith) v3 (own_first own list i j (omega arith) (omega arith) w.if-own-i.true)
       | else-j-list-2+else-i-own-2+else-own-i+then-own-i-2 w ↦ let jj = w.if-j-list-2.false in let ii = w.if-i-own-2.false in stepping v.items u.items own list v.len i j (i + 1) (j + 1) u.i u.j (get_or own i 0) v.invariant c.if-len-eq-MOST.false w.items-is w.i-is w.j-is (omega arith) (omega arith) (both_first own list i j (omega arith) (omega arith) w.if-own-i-2.true)

@@ -19,7 +19,7 @@ pub loop-self-preserved : goal.loop-self-preserved
 loop-self-preserved g c =
     let v = c.loop-self.self in
     let u = c.pass_oldest.new.self in
-    let told = c.in-default.ensures in
+    let told = c.in_default.ensures in
     (told.means.on ∙ c.loop-self.invariant.0, fewer_then _ _ _ c.loop-self.invariant.1 told.means, λ o left t p. c.loop-self.invariant.2 o left t (oldest_then_all g.S.MemberStore.meaning g.S.MemberStore.storing (vec_items v.held) (vec_items u.held) left v.below u.below t o told.passes p))
 
 pub returns : goal.returns

@@ -20,7 +20,7 @@ returns-then-not-powered g c =
     let cut = kept_cut h (mean w.below) (mean t) c.requires.on hs later r first c.store-answer.ensures.means down in
     let told = c.err.ensures.value ∙ ap result_err cut.1 in
     record {
-      passes = oldest_kept mean g.S.MemberStore.storing h w.below t r c.store-answer.ensures.means c.store-answer.ensures.own_val hs hs later c.err.result cut.0 first refl down cut.1 c.err.ensures.value;
+      passes = oldest_kept mean g.S.MemberStore.storing h w.below t r c.store-answer.ensures.means c.store-answer.ensures.own hs hs later c.err.result cut.0 first refl down cut.1 c.err.ensures.value;
       means = simp told (cut.2, cut.3);
       len = simp told;
     }
@@ -38,7 +38,7 @@ returns g c =
     let first = first_out hs left h some c.index.ensures c.remove.ensures.items in
     let up = sym c.if-not-powered.ensures in
     record {
-      passes = oldest_gone mean g.S.MemberStore.storing h w.below t r c.store-answer.ensures.means c.store-answer.ensures.own_val hs left first up;
+      passes = oldest_gone mean g.S.MemberStore.storing h w.below t r c.store-answer.ensures.means c.store-answer.ensures.own hs left first up;
       means = gone_fewer h (mean w.below) (mean t) c.requires.on hs left r first h.whole c.store-answer.ensures.means up;
       len = c.remove.ensures.len;
     }
