@@ -1,5 +1,5 @@
 -- The block calls, refused by their checks. Assumes nothing.
-use Rattle.std.proofs.Common.{◌≡◌, ℕ, Bool, true, false, cond, List, length, Some, None, Ok, Err, Option, Result, sym, refl, ap, ◌∙◌, subst}
+use Rattle.std.proofs.Common.{◌≡◌, ℕ, cond, List, length, Some, None, Ok, Err, sym, refl, subst}
 use Rattle.std.specs.Option as options
 use Rattle.std.specs.Option.{option_or}
 use Rattle.member_store.specs.Meaning as store
@@ -8,7 +8,7 @@ use Rattle.cache.specs.Contents.{Contents, no_slot_for, put_into}
 use Rattle.array_model.specs.Meaning.{Meaning, Geometry, array, with_caches}
 use Rattle.array_model.specs.Checks.{block_checks, write_checks}
 use Rattle.array_model.specs.Work.{Declines}
-use Rattle.array_model.specs.Calls.{Plain, Checked, InReady, Writes, ReadsNewest, Reads}
+use Rattle.array_model.specs.Calls.{Plain, Checked, InReady, Writes}
 use Rattle.array_model.specs.declared.state.State.{State}
 use Rattle.array_model.specs.declared.state.State.TheVariants.{Ready}
 use Rattle.array_model.specs.declared.refusal.ArrayRefusal.{ArrayRefusal}

@@ -1,11 +1,11 @@
 -- Flushes of a ready array, as what its call does. Assumes nothing.
-use Rattle.std.proofs.Common.{◌≡◌, ℕ, Result, sym, refl, ap, ◌∙◌, subst}
+use Rattle.std.proofs.Common.{◌≡◌, Result, sym, subst}
 use Rattle.geometry.specs.Counts.{members_of, blocks_of}
 use Rattle.geometry.specs.declared.shape.Shape.{Shape}
 use Rattle.member_store.specs.Meaning as store
 use Rattle.intent_log.specs.Meaning as intent
 use Rattle.cache.specs.Contents.{Contents}
-use Rattle.array_model.specs.Meaning.{Meaning, Arrange, geometry_on, array}
+use Rattle.array_model.specs.Meaning.{Arrange, geometry_on, array}
 use Rattle.array_model.specs.Calls.{FlushesReady, Flushes}
 use Rattle.array_model.specs.declared.answer.FlushCounts.{FlushCounts}
 use Rattle.array_model.specs.declared.state.State.{State}

@@ -1,5 +1,5 @@
 -- Formatting. Assumes nothing.
-use Rattle.std.proofs.Common.{◌≡◌, ℕ, true, cond, Some, None, Ok, Err, Option, Result, sym, refl, ap, ◌∙◌, subst}
+use Rattle.std.proofs.Common.{◌≡◌, ℕ, true, cond, Some, None, Ok, Err, sym, refl, ap, ◌∙◌, subst}
 use Rattle.std.specs.Option as options
 use Rattle.geometry.specs.Counts.{members_of, blocks_of}
 use Rattle.geometry.specs.declared.shape.Shape.{Shape}
@@ -15,7 +15,7 @@ use Rattle.array_model.specs.declared.state.State.TheVariants.{Fallen, Down}
 use Rattle.array_model.specs.declared.refusal.ArrayRefusal.{ArrayRefusal}
 use Rattle.array_model.specs.declared.refusal.ArrayRefusal.TheVariants.{Limits}
 use Rattle.array_work.specs.Outcomes.{sized}
-use Rattle.array.specs.Sound.{LogOn, Sized, SoundIn}
+use Rattle.array.specs.Sound.{Sized, SoundIn}
 
 -- a shape with the counts of the members
 pub same_geometry : (arrange : Arrange) (a : Shape) (m : store.Meaning) → members_of a ≡ m.members → blocks_of a ≡ m.blocks → sized arrange a ≡ geometry_on arrange m

@@ -1,5 +1,5 @@
 -- What accepted actions keep: the counts of the members, and the log's power. Assumes nothing.
-use Rattle.std.proofs.Common.{◌≡◌, ℕ, Bool, true, List, [], ◌∷◌, sym, refl, ap, ◌∙◌, subst}
+use Rattle.std.proofs.Common.{◌≡◌, ℕ, true, List, [], ◌∷◌, sym, ap, ◌∙◌, subst}
 use Rattle.geometry.specs.Counts.{counts_allowed, members_of, blocks_of}
 use Rattle.geometry.specs.declared.shape.Shape.{Shape}
 use Rattle.member_store.specs.Meaning as store

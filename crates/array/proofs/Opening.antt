@@ -1,5 +1,5 @@
 -- The openings. Assumes nothing.
-use Rattle.std.proofs.Common.{◌≡◌, ℕ, ◌<◌, Bool, true, false, cond, IfOk, Some, None, Ok, Err, Option, Result, sym, refl, ap, ◌∙◌, subst, arith}
+use Rattle.std.proofs.Common.{◌≡◌, ℕ, ◌<◌, cond, IfOk, Some, None, Ok, Err, Option, Result, sym, refl, ap, subst, arith}
 use Rattle.std.proofs.lemmas.Bool.{lt-ltb}
 use Rattle.std.specs.Option.{option_or}
 use Rattle.member_store.specs.Meaning as store
@@ -13,7 +13,7 @@ use Rattle.array_model.specs.declared.state.State.{State}
 use Rattle.array_model.specs.declared.state.State.TheVariants.{Fallen, Down, Resync, Ready, Short}
 use Rattle.array_model.specs.declared.refusal.ArrayRefusal.{ArrayRefusal}
 use Rattle.array_model.specs.declared.refusal.ArrayRefusal.TheVariants.{Limits, WrongState, NoMember}
-use Rattle.array.specs.Sound.{LogOn, Sized, SoundIn, Bounded, verdict}
+use Rattle.array.specs.Sound.{LogOn, Sized, SoundIn, verdict}
 use Rattle.array.proofs.Verdicts.{passed, refused}
 
 -- a call that only down allows, in another state

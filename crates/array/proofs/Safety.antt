@@ -1,5 +1,5 @@
 -- What destages and flushes leave of a sound array. Assumes nothing.
-use Rattle.std.proofs.Common.{◌≡◌, ℕ, Bool, true, false, ◌⊎◌, List, [], ◌∷◌, Some, None, Ok, Err, Option, Result, sym, refl, ap, ◌∙◌, subst, inl, inr, arith}
+use Rattle.std.proofs.Common.{◌≡◌, ℕ, true, List, [], ◌∷◌, Some, None, Ok, Err, Option, Result, sym, ap, subst, inl, inr, arith}
 use Rattle.std.specs.Option as options
 use Rattle.device_calls.specs.Lists.{barrier}
 use Rattle.cache.specs.Contents.{Contents, exchanged}

@@ -1,5 +1,5 @@
 -- What checks answer. Assumes nothing.
-use Rattle.std.proofs.Common.{◌≡◌, ℕ, Bool, true, false, cond, Some, None, Ok, Err, Option, Result, sym, refl, ap, ◌∙◌, subst, arith}
+use Rattle.std.proofs.Common.{◌≡◌, ℕ, Bool, true, cond, Some, None, Ok, Err, Option, Result, ap, ◌∙◌, subst, arith}
 use Rattle.std.specs.Option as options
 use Rattle.intent_log.specs.Meaning as intent
 use Rattle.intent_log.specs.Calls.{Answers}

@@ -7,7 +7,7 @@ use Rattle.geometry.specs.declared.shape.Shape.{Shape}
 use Rattle.member_store.specs.Meaning as store
 use Rattle.intent_log.specs.Meaning as intent
 use Rattle.cache.specs.Contents.{Contents, no_slot_for, put_into}
-use Rattle.array_model.specs.Meaning.{Arrange, Geometry, geometry_on, array, home, holder}
+use Rattle.array_model.specs.Meaning.{Arrange, geometry_on, array, home, holder}
 use Rattle.array_model.specs.Checks.{block_checks, read_short_checks}
 use Rattle.array_model.specs.Calls.{Plain}
 use Rattle.array_model.specs.declared.refusal.ArrayRefusal.{ArrayRefusal}

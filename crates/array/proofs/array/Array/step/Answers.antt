@@ -1,5 +1,4 @@
 use Rattle.cache.specs.Meaning.{contents}
-use Rattle.array_model.specs.Meaning.{array}
 use Rattle.array.specs.Sound.{means}
 use Rattle.array.proofs.Resyncing.{resync_sound, from, steps}
 use Rattle.array.proofs.array.Array.step.Goals as goal
