@@ -1,5 +1,5 @@
 -- What a buffer holds after a read into it, and how many tokens there are where a last one was found. Assumes nothing.
-use Rattle.std.proofs.Common.{◌≡◌, ℕ, ◌<◌, ◌≤◌, List, ◌++◌, length, take, drop, sym, refl, ap, ◌∙◌, subst, arith, take_all}
+use Rattle.std.proofs.Common.{◌≡◌, ℕ, ◌≤◌, List, ◌++◌, length, take, ◌∙◌, arith, take_all}
 use lib.Seq.{take-append-le}
 
 -- a buffer of n bytes that was filled whole

@@ -1,13 +1,13 @@
 -- Every call leaves the caches of a down, resynchronizing or short array empty. Assumes nothing.
-use Rattle.std.proofs.Common.{◌≡◌, ℕ, Bool, true, false, cond, not, eqb, ◌⊎◌, List, [], ◌∷◌, length, Some, None, Ok, Err, Option, Result, sym, refl, ap, ◌∙◌, subst, inl, inr}
+use Rattle.std.proofs.Common.{◌≡◌, ℕ, Bool, true, false, cond, not, eqb, List, [], ◌∷◌, length, Some, None, Ok, Err, Option, Result, sym, refl, subst, inl, inr}
 use Rattle.std.specs.Option as options
 use Rattle.std.specs.Result as results
-use Rattle.device_calls.specs.Lists.{DeviceCall, barrier}
+use Rattle.device_calls.specs.Lists.{barrier}
 use Rattle.cache.specs.Contents.{Contents, empty, put_into, newest, exchanged}
 use Rattle.cache.specs.Stripes.{Listed, by_position, stripe_freed}
 use Rattle.stripe_work.specs.Stripe.{parity_right}
 use Rattle.stripe_work.specs.Work.{destage_calls, resync_calls, other_reads, reconstructed}
-use Rattle.array_model.specs.Meaning.{Meaning, array, in_state, with_caches, Geometry, stripe, home, holder, held}
+use Rattle.array_model.specs.Meaning.{Meaning, in_state, with_caches, Geometry, stripe, home, holder, held}
 use Rattle.array_model.specs.Checks.{limits_check, open_checks, open_short_checks, block_checks, write_checks, read_short_checks, naming_check}
 use Rattle.array_model.specs.Work.{Action, devices, clear, Performs, Declines}
 use Rattle.array_model.specs.Calls.{Plain, Checked, NotAllowed, PowersOn, format_actions, Formats, begun, Opens, OpensShort, taken, Takes, StepsFrom, Steps, totals, finish_actions, FinishesFrom, Finishes, Writes, Fetches, read_calls, ReadsNewest, Reads, naming_actions, puts, ChangesCaches, MovesStripe, DestagesReady, Destages, Drains, begin, then_moved, then_changed, FlushesReady, Flushes, ClosesReady, Closes, ReadsWithout, ReadsShort, given_up, GivesUp}

@@ -1,18 +1,17 @@
 -- Calls made one after the other keep the promise. Assumes nothing.
-use Rattle.std.proofs.Common.{◌≡◌, ℕ, ◌+◌, ◌<◌, ◌≤◌, Bool, true, false, ◌⊎◌, List, [], ◌∷◌, ◌++◌, length, get_or, take, Some, None, Ok, Err, Option, Result, sym, refl, ap, ◌∙◌, subst, inl, inr, append_assoc, append-nil, arith}
+use Rattle.std.proofs.Common.{◌≡◌, ℕ, ◌+◌, ◌≤◌, true, false, List, [], ◌∷◌, ◌++◌, length, take, Some, None, Ok, Err, Option, sym, refl, ap, ◌∙◌, subst, inl, inr, append_assoc, append-nil, arith}
 use Rattle.cache.specs.Contents.{empty}
 use Rattle.array_model.specs.Meaning.{Meaning, Arrange, LawfulLayout, geometry}
 use Rattle.array_model.specs.Checks.{limits_check}
 use Rattle.array_model.specs.Work.{Performs}
 use Rattle.array_model.specs.Calls.{Plain, Checked, format_actions, Formats}
 use Rattle.array_model.specs.Book as model
-use Rattle.array_model.specs.Runs.{Run, formatted, next, Does}
-use Rattle.array_model.specs.declared.refusal.ArrayRefusal.{ArrayRefusal}
+use Rattle.array_model.specs.Runs.{formatted, next, Does}
 use Rattle.array_model.specs.declared.state.State.TheVariants.{Down}
 use Rattle.array_model.proofs.Cases.{ok≢err, in_down}
 use Rattle.array_model.proofs.Promised.{crash_promise}
 use Rattle.array_run.specs.TokenCounts.{TokenCounts}
-use Rattle.array_run.specs.Calls.{as_call, held_for, Told, tokens_after, Made}
+use Rattle.array_run.specs.Calls.{as_call, Made}
 use Rattle.array_run.specs.Trace.{EmptyUnlessReady, Account, account_begun, accounted, InRun, Promised, Trace, begin, then_none, then_made, Keeps}
 use Rattle.array_run.specs.declared.answer.Answer.{Answer}
 use Rattle.array_run.specs.declared.answer.Answer.TheVariants.{NoToken}
