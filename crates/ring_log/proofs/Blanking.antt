@@ -1,10 +1,10 @@
 -- A blank, whole and cut: from its device calls to what the log means then.
-use Rattle.std.proofs.Common.{◌≡◌, ℕ, zero, suc, ◌+◌, ◌*◌, ◌/◌, ◌%◌, ◌<◌, ◌≤◌, Bool, true, false, cond, ◌&&◌, eqb, ◌⊎◌, List, [], ◌∷◌, ◌++◌, length, replicate, IfOk, Some, None, Ok, Err, Option, Result, sym, refl, ap, ◌∙◌, subst, inl, inr, ⊎_elim, add-one, arith}
+use Rattle.std.proofs.Common.{◌≡◌, ℕ, zero, suc, ◌+◌, ◌/◌, ◌%◌, ◌<◌, ◌≤◌, Bool, true, false, cond, ◌&&◌, eqb, ◌⊎◌, List, [], ◌∷◌, IfOk, Some, None, Ok, Err, Option, Result, sym, refl, ap, ◌∙◌, subst, inl, inr, ⊎_elim, add-one, arith}
 use Rattle.std.proofs.lemmas.Bool.{cases_eq, cases_order, and_right, and_from, and_parts, both_ways, eqb-true, eqb-false}
 use Rattle.std.specs.Result as results
 use Rattle.member_store.specs.Meaning.{Meaning, current, Version, HasBlock}
 use Rattle.member_store.specs.Refusals.{IsPowerOff}
-use Rattle.member_store.specs.Calls.{SameCounts, Cut, CutStore, Stored, Barred, checks, barrier_checks}
+use Rattle.member_store.specs.Calls.{SameCounts, Stored, Barred, checks, barrier_checks}
 use Rattle.member_store.specs.declared.refusal.Refusal.{Refusal}
 use Rattle.member_store.proofs.Checks.{passing}
 use Rattle.device_calls.specs.Lists as device
@@ -14,8 +14,7 @@ use Rattle.device_calls.proofs.Left.{still_has, counts_then}
 use Rattle.device_calls.proofs.Refusals.{CurrentStands, went}
 use Rattle.record.specs.Contents.{Contents}
 use Rattle.record.specs.Reading.{recorded}
-use Rattle.record.proofs.Steps.{some≢none}
-use Rattle.intent_log.specs.Meaning.{Standing, MayStand}
+use Rattle.intent_log.specs.Meaning.{Standing}
 use Rattle.intent_log.specs.Refusals.{PowerWent}
 use Rattle.intent_log.specs.Calls.{ChangeDone, CutShort, NamesNothing, Blanks, power_checks}
 use Rattle.intent_log.specs.Devices.{Makes, MakesChange}
@@ -23,7 +22,7 @@ use Rattle.intent_log.specs.declared.refusal.LogRefusal.{LogRefusal}
 use Rattle.intent_log.proofs.Changes.{refused_went, makes_passed}
 use Rattle.ring_log.specs.Slots.{slots}
 use Rattle.ring_log.specs.Highest.{highest, slot_or}
-use Rattle.ring_log.specs.Ring.{slot_record, standing_of, stands_in, ring_on, ring, Steady, Sound}
+use Rattle.ring_log.specs.Ring.{slot_record, standing_of, stands_in, ring, Steady, Sound}
 use Rattle.ring_log.specs.Own.{zero_block, zero_slot, zero_standing, blank_calls, standing, OwnBlank}
 use Rattle.ring_log.specs.HighestLemmas.{highest_thin, highest_empty, stands_from}
 use Rattle.ring_log.specs.Places.{place, apart}

@@ -1,6 +1,6 @@
 -- What a change that ends with a put comes to.
-use Rattle.std.proofs.Common.{◌≡◌, ℕ, ◌+◌, ◌%◌, ◌<◌, ◌≤◌, Bool, true, false, cond, ◌&&◌, ◌||◌, eqb, leb, ◌⊎◌, List, [], ◌∷◌, length, is_some, IfOk, Some, None, Ok, Err, Option, Result, sym, refl, ap, ◌∙◌, subst, inl, inr, ⊎_elim, arith}
-use Rattle.std.proofs.lemmas.Bool.{and_parts, and_from, and_right, both_ways, le-leb, lt-leb, cond-true, cond-false, eq-eqb, ne_eqb, or_left, or_right, false≢true}
+use Rattle.std.proofs.Common.{◌≡◌, ℕ, ◌+◌, ◌<◌, ◌≤◌, Bool, true, false, ◌&&◌, eqb, leb, List, [], ◌∷◌, length, is_some, IfOk, Some, None, Ok, Err, Option, Result, sym, refl, ap, ◌∙◌, subst, inl, inr, arith}
+use Rattle.std.proofs.lemmas.Bool.{and_parts, and_right, both_ways, le-leb, lt-leb, cond-true, cond-false, eq-eqb, ne_eqb, or_left, or_right, false≢true}
 use Rattle.std.specs.Result as results
 use Rattle.member_store.specs.Meaning.{Meaning, In}
 use Rattle.device_calls.specs.Lists.{DeviceCall}
@@ -11,13 +11,12 @@ use Rattle.stripe_set.proofs.Lists.{merged_both}
 use Rattle.record.specs.Contents.{Contents}
 use Rattle.record.specs.Form.{block}
 use Rattle.record.specs.Reading.{recorded}
-use Rattle.intent_log.specs.Meaning.{Standing, MayStand, listed}
+use Rattle.intent_log.specs.Meaning.{Standing, listed}
 use Rattle.intent_log.specs.Calls.{Refused, Changes, Marks, Freshens, Clears, Includes, NamesList, NamesNothing, mark_checks, fresh_checks, power_checks}
 use Rattle.intent_log.specs.Devices.{Makes, MakesChange}
 use Rattle.intent_log.specs.declared.refusal.LogRefusal.{LogRefusal}
 use Rattle.intent_log.specs.declared.refusal.LogRefusal.TheVariants.{DoesNotFit}
 use Rattle.intent_log.proofs.Changes.{refused_went, makes_passed}
-use Rattle.ring_log.specs.Slots.{slots}
 use Rattle.ring_log.specs.Highest.{version_of, stripes_of, present}
 use Rattle.ring_log.specs.Ring.{standing_of, stands_in, ring, Steady, Sound}
 use Rattle.ring_log.specs.declared.ring.StandingRecord.{StandingRecord}

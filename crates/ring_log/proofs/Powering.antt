@@ -1,6 +1,6 @@
 -- Power-on, whole and cut.
-use Rattle.std.proofs.Common.{◌≡◌, ℕ, suc, ◌+◌, ◌*◌, ◌/◌, ◌%◌, ◌<◌, ◌≤◌, Bool, true, false, cond, ◌&&◌, ltb, ◌⊎◌, List, [], ◌∷◌, map, length, Some, None, Ok, Err, Option, Result, sym, refl, ap, ◌∙◌, subst, inl, inr, ⊎_elim, add-one, arith}
-use Rattle.std.proofs.lemmas.Bool.{and_left, le-ltb, lt-ltb, cond-true, cond-false}
+use Rattle.std.proofs.Common.{◌≡◌, ℕ, ◌+◌, ◌/◌, ◌%◌, ◌<◌, ◌≤◌, Bool, true, false, ◌&&◌, ltb, List, length, Some, None, Err, Option, Result, sym, refl, ap, ◌∙◌, subst, inl, inr, add-one}
+use Rattle.std.proofs.lemmas.Bool.{and_left, le-ltb, cond-false}
 use Rattle.std.specs.Option as options
 use Rattle.member_store.specs.Meaning.{Meaning, current, Version, HasBlock, In}
 use Rattle.member_store.specs.Refusals.{IsPowerOff, off_at}
@@ -19,9 +19,9 @@ use Rattle.intent_log.specs.declared.refusal.LogRefusal.{LogRefusal}
 use Rattle.intent_log.proofs.Changes.{map_in}
 use Rattle.ring_log.specs.Slots.{slots}
 use Rattle.ring_log.specs.Highest.{highest, candidates, better, at_slot, higher_of}
-use Rattle.ring_log.specs.Ring.{slot_record, slot_records, standing_of, stands_in, ring_on, ring, Steady}
+use Rattle.ring_log.specs.Ring.{slot_record, slot_records, standing_of, ring_on, ring, Steady}
 use Rattle.ring_log.specs.Own.{read_slot, OwnPower}
-use Rattle.ring_log.specs.HighestLemmas.{highest_same, chosen_in}
+use Rattle.ring_log.specs.HighestLemmas.{chosen_in}
 use Rattle.ring_log.proofs.Making.{reads_same}
 use Rattle.ring_log.specs.Places.{place}
 use Rattle.ring_log.specs.Puts.{Choice, ring_same, choice_from, steady_single, steady_same}

@@ -1,5 +1,5 @@
 -- What stands, by the records that it is above; and what may stand, by one choice for each slot.
-use Rattle.std.specs.Prelude.{◌≡◌, ℕ, zero, suc, ◌<◌, ◌≤◌, Bool, true, false, cond, ◌⊎◌, List, [], ◌∷◌, ◌++◌, map, Some, None, Option, ◌==◌, ◌≢◌, nat_lt, refl}
+use Rattle.std.specs.Prelude.{◌≡◌, ℕ, zero, suc, ◌<◌, ◌≤◌, true, false, cond, ◌⊎◌, List, [], ◌∷◌, ◌++◌, map, Some, None, Option, ◌==◌, ◌≢◌, nat_lt, refl}
 use Rattle.std.proofs.Common.{sym, ap, subst, ◌∙◌, inl, inr, ⊎_elim, arith}
 use Rattle.std.specs.List.{flat_map}
 use Rattle.std.proofs.lemmas.Bool.{ltb-true, ltb-false, eqb-true, eqb-false, cases_Bool, cases_order, cases_eq}
@@ -7,7 +7,7 @@ use Rattle.member_store.specs.Meaning.{In}
 use Rattle.record.specs.Contents.{Contents}
 use Rattle.record.proofs.Steps.{some≢none, some_same}
 use Rattle.intent_log.proofs.Changes.{in_map, map_in}
-use Rattle.ring_log.specs.Highest.{higher, better, highest, candidates, version_of}
+use Rattle.ring_log.specs.Highest.{better, highest, candidates, version_of}
 
 abbrev Found : Type 0
 Found = Option (ℕ × Contents)

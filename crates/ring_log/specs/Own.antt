@@ -15,7 +15,7 @@ use Rattle.intent_log.specs.Devices.{Makes, MakesChange}
 use Rattle.intent_log.specs.declared.refusal.LogRefusal.{LogRefusal}
 use Rattle.intent_log.specs.declared.refusal.LogRefusal.TheVariants.{Off}
 use Rattle.ring_log.specs.Slots.{slots, slot_member, slot_block, slot_for}
-use Rattle.ring_log.specs.Highest.{slot_or, version_of, stripes_of, present}
+use Rattle.ring_log.specs.Highest.{slot_or, version_of, stripes_of}
 use Rattle.ring_log.specs.Ring.{stands_in, ring}
 
 abbrev pub contents_of : ℕ → List ℕ → Contents

@@ -1,6 +1,6 @@
 -- Slots lie in places, different ones in different places.
-use Rattle.std.specs.Prelude.{◌≡◌, ℕ, ◌+◌, ◌*◌, ◌/◌, ◌%◌, ◌<◌, ◌≤◌, min, ◌≢◌, refl}
-use Rattle.std.proofs.Common.{sym, ap, subst, ◌∙◌, arith, mod-lt, mul_comm}
+use Rattle.std.specs.Prelude.{◌≡◌, ℕ, ◌+◌, ◌*◌, ◌/◌, ◌%◌, ◌<◌, ◌≤◌, ◌≢◌}
+use Rattle.std.proofs.Common.{sym, ap, ◌∙◌, arith, mod-lt, mul_comm}
 use Rattle.std.proofs.Math.Nat.{div-add-mod, min-le_right}
 use Rattle.std.proofs.lemmas.Nat.{div_below}
 use Rattle.ring_log.specs.Slots.{slots}

@@ -1,5 +1,5 @@
 -- A put, whole and cut: from its device calls to what the log means then.
-use Rattle.std.specs.Prelude.{◌≡◌, ℕ, ◌+◌, ◌*◌, ◌/◌, ◌%◌, ◌<◌, ◌≤◌, Bool, true, false, cond, ◌&&◌, ◌⊎◌, List, [], ◌∷◌, map, Some, None, Ok, Err, Option, Result, ◌≢◌, refl}
+use Rattle.std.specs.Prelude.{◌≡◌, ℕ, ◌/◌, ◌%◌, ◌<◌, ◌≤◌, Bool, true, false, ◌⊎◌, List, Some, Ok, Err, Option, Result, ◌≢◌, refl}
 use Rattle.std.proofs.Common.{sym, ap, subst, ◌∙◌, inl, inr, ⊎_elim, mod-lt, arith}
 use Rattle.std.proofs.lemmas.Bool.{cases_eq, and_right, and_from}
 use Rattle.std.specs.Result as results

@@ -1,4 +1,4 @@
-use Rattle.std.proofs.Common.{◌≡◌, ◌*◌, ◌≤◌, ⊎_elim, mul-le-mul, arith, rules}
+use Rattle.std.proofs.Common.{◌*◌, ◌≤◌, ⊎_elim, mul-le-mul, arith}
 use Rattle.ring_log.proofs.slot_count.Goals as goal
 
 pub returns-then-members-ge-MOST_SLOTS : goal.returns-then-members-ge-MOST_SLOTS

@@ -1,7 +1,6 @@
-use Rattle.std.proofs.Common.{◌≡◌, ℕ, true, false, not, ◌&&◌, None, Ok, Err, sym, refl, ap, ◌∙◌, subst}
+use Rattle.std.proofs.Common.{◌≡◌, true, false, not, ◌&&◌, None, Ok, Err, sym, refl, ap, ◌∙◌}
 use Rattle.intent_log.specs.declared.refusal.LogRefusal.TheVariants.{Store}
-use Rattle.ring_log.specs.Slots.{slots}
-use Rattle.ring_log.specs.Highest.{slot_or, present}
+use Rattle.ring_log.specs.Highest.{present}
 use Rattle.ring_log.specs.Kept.{kept}
 use Rattle.ring_log.proofs.Making.{same_slots, blank_first, blank_bar, blank_none, blank_stop, blank_all}
 use Rattle.ring_log.proofs.Changing.{kept_present, none_kept}

@@ -1,10 +1,7 @@
-use Rattle.std.proofs.Common.{◌≡◌, ℕ, Bool, true, cond, ◌&&◌, leb, List, length, Ok, Err, Option, sym, ap, ◌∙◌}
-use Rattle.std.proofs.lemmas.Bool.{cond-true}
-use Rattle.intent_log.specs.declared.refusal.LogRefusal.TheVariants.{Off}
+use Rattle.std.proofs.Common.{◌≡◌, ℕ, true, ◌&&◌, leb, List, length, sym, ap, ◌∙◌}
 use Rattle.stripe_set.specs.Stripes.{stripes}
 use Rattle.stripe_set.specs.Union.{merged}
 use Rattle.stripe_set.proofs.Lists.{merged_rising, same_merged}
-use Rattle.record.specs.Contents.{Contents}
 use Rattle.intent_log.specs.Meaning.{listed}
 use Rattle.ring_log.specs.Highest.{stripes_of}
 use Rattle.ring_log.specs.Own.{standing}

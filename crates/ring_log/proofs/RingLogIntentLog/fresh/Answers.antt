@@ -1,17 +1,12 @@
-use Rattle.std.proofs.Common.{◌≡◌, ℕ, ◌+◌, ◌<◌, ◌≤◌, Bool, true, false, not, ◌&&◌, leb, List, [], length, Some, None, Option, sym, refl, ap, ◌∙◌, subst, arith}
-use Rattle.intent_log.specs.Calls.{mark_checks, fresh_checks, power_checks}
-use Rattle.intent_log.specs.declared.refusal.LogRefusal.TheVariants.{DoesNotFit}
-use Rattle.intent_log.proofs.Changes.{makes_refused}
+use Rattle.std.proofs.Common.{◌≡◌, ◌+◌, ◌<◌, true, not, ◌&&◌, sym, ap, ◌∙◌, arith}
+use Rattle.intent_log.specs.Calls.{fresh_checks}
 use Rattle.stripe_set.specs.Stripes.{stripes}
-use Rattle.stripe_set.specs.Union.{merged}
-use Rattle.stripe_set.proofs.Lists.{merged_rising, same_merged}
 use Rattle.record.specs.Contents.{Contents, contents}
-use Rattle.ring_log.specs.Highest.{version_of, stripes_of, present}
+use Rattle.ring_log.specs.Highest.{version_of, present}
 use Rattle.ring_log.specs.Kept.{kept}
-use Rattle.ring_log.specs.Ring.{ring, Sound}
-use Rattle.ring_log.specs.Own.{contents_of, standing}
-use Rattle.ring_log.proofs.Making.{few_stripes, union_fits, union_is}
-use Rattle.ring_log.proofs.Changing.{sound_after, own, mark_passes, fresh_passes, clear_passes, marks, freshens, clears, cleared_same, refused_by, does_not_fit, kept_present, next_is, clear_nothing, clear_first, clear_next, own_clear, own_nothing, Remembers, remembers}
+use Rattle.ring_log.specs.Ring.{ring}
+use Rattle.ring_log.specs.Own.{contents_of}
+use Rattle.ring_log.proofs.Changing.{sound_after, own, fresh_passes, freshens, kept_present, next_is, remembers}
 use Rattle.ring_log.proofs.RingLogIntentLog.fresh.Goals as goal
 
 pub returns : goal.returns

@@ -1,6 +1,5 @@
-use Rattle.std.proofs.Common.{◌≡◌, ℕ, ◌/◌, ◌%◌, true, List, length, None, Ok, Err, sym, refl, ap, ◌∙◌, subst, inl, arith}
+use Rattle.std.proofs.Common.{◌≡◌, ℕ, ◌/◌, ◌%◌, true, List, Ok, Err, sym, refl, ap, ◌∙◌, subst, arith}
 use Rattle.member_store.specs.Meaning.{Meaning, current}
-use Rattle.member_store.specs.Calls.{checks}
 use Rattle.device_calls.specs.Lists.{DeviceCall, Completed, Stopped}
 use Rattle.device_calls.proofs.Append.{for_each_more, for_each_stopped}
 use Rattle.record.specs.Reading.{recorded}
@@ -12,7 +11,6 @@ use Rattle.ring_log.specs.Highest.{at_slot}
 use Rattle.ring_log.specs.Kept.{kept}
 use Rattle.ring_log.specs.Ring.{ring, Steady}
 use Rattle.ring_log.specs.Own.{read_slot}
-use Rattle.ring_log.proofs.Making.{same_slots, reads_same}
 use Rattle.ring_log.proofs.Powering.{highest_start, highest_more, wide_enough_checks, power_cut, power_sound, power_whole, power_own, read_cut, read_done, read_stopped}
 use Rattle.ring_log.proofs.RingLogIntentLog.power_on.Goals as goal
 

@@ -1,6 +1,6 @@
-use Rattle.std.proofs.Common.{◌≡◌, ℕ, List, Some, sym, refl, ap, ◌∙◌, subst}
+use Rattle.std.proofs.Common.{ℕ, List, Some, sym, refl, ap, ◌∙◌, subst}
 use Rattle.device_calls.specs.Lists.{DeviceCall, Completed, Stopped}
-use Rattle.record.specs.Contents.{Contents, contents}
+use Rattle.record.specs.Contents.{contents}
 use Rattle.record.specs.Reading.{recorded}
 use Rattle.ring_log.proofs.Making.{same_slot, put_list}
 use Rattle.ring_log.proofs.ring.RingLog.put.Goals as goal

@@ -1,4 +1,3 @@
-use Rattle.std.proofs.Common.{◌≡◌, refl}
 use Rattle.device_calls.proofs.Append.{for_each_more, for_each_stopped}
 use Rattle.ring_log.specs.Own.{zero_slot}
 use Rattle.ring_log.proofs.Making.{zero_skipped, zero_done, zero_stopped}
