@@ -1,9 +1,9 @@
 -- Lists of device calls, one after the other, and turn by turn. Assumes nothing.
-use Rattle.std.proofs.Common.{◌≡◌, ℕ, zero, suc, ◌+◌, ◌<◌, ◌⊎◌, List, [], ◌∷◌, ◌++◌, Ok, Err, Result, sym, refl, ap, ◌∙◌, subst, inl, inr, ⊎_elim, add-one, arith}
+use Rattle.std.proofs.Common.{◌≡◌, ℕ, zero, suc, ◌+◌, ◌<◌, ◌⊎◌, List, [], ◌∷◌, ◌++◌, Ok, Err, Result, refl, ap, ◌∙◌, subst, inl, inr, ⊎_elim, add-one, arith}
 use native.Mathlib.Decide.{ℕ_discrete}
 use Rattle.member_store.specs.Meaning.{Meaning}
 use Rattle.member_store.specs.declared.refusal.Refusal.{Refusal}
-use Rattle.device_calls.specs.Lists.{DeviceCall, Accepted, Rejected, Completed, Stopped, Performs, for_each}
+use Rattle.device_calls.specs.Lists.{DeviceCall, Accepted, Completed, Stopped, Performs, for_each}
 
 pub completed_then : (xs ys : List DeviceCall) (s u t : Meaning) → Completed xs s u → Completed ys u t → Completed (xs ++ ys) s t
 completed_then [] ys s u t a b = subst (λ v. Completed ys v t) a b

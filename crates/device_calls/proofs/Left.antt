@@ -1,5 +1,5 @@
 -- What lists of device calls leave: counts, power, current bytes and versions. Assumes nothing.
-use Rattle.std.proofs.Common.{◌≡◌, ℕ, ◌<◌, Bool, true, false, ◌⊎◌, List, [], ◌∷◌, ◌++◌, Some, None, Option, sym, refl, ap, ◌∙◌, subst, inl, inr, ⊎_elim, arith}
+use Rattle.std.proofs.Common.{◌≡◌, ℕ, ◌<◌, Bool, true, false, ◌⊎◌, List, [], ◌∷◌, ◌++◌, Some, None, Option, sym, refl, ap, ◌∙◌, subst, inl, inr, ⊎_elim}
 use Rattle.member_store.specs.Meaning.{Meaning, Version, current, HasBlock}
 use Rattle.member_store.specs.Calls.{SameCounts, Cut, CutStore, checks, barrier_checks}
 use Rattle.member_store.specs.Refusals.{IsPowerOff, off_at, off_at_barrier}

@@ -1,5 +1,5 @@
 -- Properties of every call of a list. Assumes nothing.
-use Rattle.std.proofs.Common.{◌≡◌, ℕ, zero, suc, ◌<◌, ◌⊎◌, List, [], ◌∷◌, ◌++◌, sym, subst, inl, inr, ⊎_elim, arith}
+use Rattle.std.proofs.Common.{◌≡◌, ℕ, zero, suc, ◌<◌, List, [], ◌∷◌, ◌++◌, sym, subst, inl, inr, arith}
 use native.Mathlib.Decide.{ℕ_discrete}
 use Rattle.device_calls.specs.Lists.{DeviceCall, read, store, barrier, for_each}
 use Rattle.device_calls.specs.Effects.{Every, Spares, Reading, Writes, Written}

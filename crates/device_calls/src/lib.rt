@@ -1,5 +1,7 @@
 //! Work on a member store as the list of its device calls: what it is to perform such a list, stopping at the first
 //! refusal, and what that leaves.
+#![tactic(auto)]
+
 ghost use Rattle.std.specs.Prelude.{[], ◌∷◌, MatchResult};
 ghost use Rattle.device_calls.specs.Lists.{store as storing, barrier as barring, Accepted, Rejected, Performs};
 ghost use Rattle.device_calls.specs.Laws.{Laws};

@@ -1,5 +1,5 @@
 -- Power-on of the flag, whole and cut.
-use Rattle.std.proofs.Common.{◌≡◌, ℕ, ◌≤◌, Bool, true, false, ◌&&◌, List, length, Err, Option, sym, refl, ap, ◌∙◌, subst, inl, inr}
+use Rattle.std.proofs.Common.{◌≡◌, ℕ, Bool, true, false, List, length, Err, Option, sym, refl, ap, ◌∙◌, subst, inl, inr}
 use Rattle.std.proofs.lemmas.Bool.{and_left}
 use Rattle.member_store.specs.Meaning as store
 use Rattle.member_store.specs.Meaning.{current, Version, HasBlock}

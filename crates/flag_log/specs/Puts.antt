@@ -1,5 +1,5 @@
 -- A put of the flag, whole and cut: from its device calls to what the log means then.
-use Rattle.std.specs.Prelude.{◌≡◌, ℕ, ◌≤◌, Bool, true, false, ◌&&◌, ◌⊎◌, List, length, Some, None, Ok, Err, Option, Result, OnOk, refl}
+use Rattle.std.specs.Prelude.{◌≡◌, ℕ, ◌≤◌, Bool, true, false, ◌&&◌, ◌⊎◌, List, None, Ok, Err, Option, Result, OnOk, refl}
 use Rattle.std.proofs.Common.{sym, ap, subst, ◌∙◌, inl, inr, ⊎_elim, arith}
 use Rattle.std.specs.Result as results
 use Rattle.std.proofs.lemmas.Bool.{and_parts, and_from, and_right, both_ways}
@@ -12,12 +12,11 @@ use Rattle.member_store.proofs.Checks.{passing}
 use Rattle.device_calls.specs.Lists.{Completed, Stopped}
 use Rattle.device_calls.proofs.Left.{still_has}
 use Rattle.device_calls.proofs.Refusals.{CurrentStands, went}
-use Rattle.intent_log.specs.Meaning.{Standing, Meaning, MayStand}
+use Rattle.intent_log.specs.Meaning.{Standing, MayStand}
 use Rattle.intent_log.specs.Refusals.{PowerWent}
-use Rattle.intent_log.specs.Calls.{Changes, ChangeDone, CutShort}
+use Rattle.intent_log.specs.Calls.{Changes}
 use Rattle.intent_log.specs.Devices.{Makes, MakesChange}
 use Rattle.intent_log.specs.declared.refusal.LogRefusal.{LogRefusal}
-use Rattle.intent_log.specs.declared.refusal.LogRefusal.TheVariants.{Store}
 use Rattle.intent_log.proofs.Changes.{refused_went, makes_passed, in_map}
 use Rattle.flag_log.specs.declared.flag.FlagRecord.{FlagRecord}
 use Rattle.flag_log.specs.Form.{flag_block, flag_record}

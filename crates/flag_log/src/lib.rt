@@ -1,4 +1,6 @@
 //! The flag log: one block that says whether any stripe may have been written to.
+#![tactic(auto)]
+
 ghost use Rattle.std.specs.Prelude.{◌≡◌, false, ◌&&◌, [], ◌∷◌, length, if◌then◌else◌, Some, None, MatchResult};
 ghost use Rattle.std.proofs.Common.{◌∙◌, ap, rules};
 ghost use Rattle.device_calls.specs.Lists.{store as storing, barrier as barring};

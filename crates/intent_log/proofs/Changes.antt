@@ -1,5 +1,5 @@
 -- What a change comes to, accepted and refused; and what may stand, by a list.
-use Rattle.std.proofs.Common.{◌≡◌, ◌⊎◌, List, [], ◌∷◌, map, IfOk, Some, None, Err, Option, Result, sym, refl, ap, ◌∙◌, subst, inl, inr}
+use Rattle.std.proofs.Common.{◌≡◌, List, [], ◌∷◌, map, IfOk, Some, None, Err, Option, Result, refl, ap, inl, inr}
 use Rattle.member_store.specs.Meaning.{Meaning, In}
 use Rattle.device_calls.specs.Lists.{DeviceCall}
 use Rattle.intent_log.specs.Refusals.{PowerWent}

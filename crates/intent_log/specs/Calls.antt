@@ -1,5 +1,5 @@
 -- What each call of a log does, as a relation between what it meant before (l) and means after (m).
-use Rattle.std.specs.Prelude.{◌≡◌, ℕ, Bool, true, false, cond, ◌⊎◌, List, length, Some, None, Ok, Err, Option, Result}
+use Rattle.std.specs.Prelude.{◌≡◌, ℕ, true, false, cond, ◌⊎◌, List, length, Some, None, Ok, Err, Option, Result}
 use Rattle.std.specs.Option as options
 use Rattle.std.specs.Result as results
 use Rattle.member_store.specs.Meaning.{In}

@@ -1,4 +1,6 @@
 //! Intent logs: the interface, what its calls mean, and why they are refused.
+#![tactic(auto)]
+
 ghost use Rattle.std.specs.Prelude.{◌≡◌, ℕ, true, false, List, Result as Answer, OnOk};
 ghost use Rattle.intent_log.specs.declared.refusal.LogRefusal.{LogRefusal as Cause};
 ghost use Rattle.intent_log.specs.Meaning.{Meaning, Standing, MayStand, listed};

@@ -1,4 +1,6 @@
-// Reads a raw image of a log's store on standard input, and tells what a box would find there.
+//! Reads a raw image of a log's store on standard input, and tells what a box would find there.
+#![tactic(auto)]
+
 mod lines;
 
 use anyhow::anyhow;

@@ -1,5 +1,5 @@
 -- Groups of seven bits: their lengths, their bits, and a turn of the encoder.
-use Rattle.std.proofs.Common.{◌≡◌, ℕ, zero, suc, ◌+◌, ◌-◌, ◌*◌, ◌/◌, ◌%◌, ◌^◌, ◌<◌, ◌≤◌, Bool, true, false, cond, ◌&&◌, eqb, ltb, List, [], ◌∷◌, ◌++◌, length, take, drop, set, sym, refl, ap, ◌∙◌, subst, mod-eq_of_lt, pow-suc, zero-add, add-one, arith, take_at}
+use Rattle.std.proofs.Common.{◌≡◌, ℕ, zero, suc, ◌+◌, ◌*◌, ◌/◌, ◌%◌, ◌^◌, ◌<◌, ◌≤◌, cond, ltb, List, [], ◌∷◌, length, take, drop, set, sym, refl, ap, ◌∙◌, mod-eq_of_lt, pow-suc, add-one, arith, take_at}
 use lib.Bits.{bit_and, bit_or, and_mask, or_shifted_r, and_high}
 use lib.Seq.{sets, sets-eq}
 use Rattle.std.proofs.lemmas.Nat.{div_below}

@@ -1,5 +1,5 @@
 -- Encoding and decoding undo each other, both ways.
-use Rattle.std.specs.Prelude.{◌≡◌, ℕ, ◌<◌, List, ◌++◌, length, take, Ok}
+use Rattle.std.specs.Prelude.{◌≡◌, ℕ, List, ◌++◌, length, take, Ok}
 use Rattle.leb128.specs.declared.decoded.Decoded.{Decoded}
 use Rattle.leb128.specs.Encoding.{encoding}
 use Rattle.leb128.specs.Decoding.{decoding, number}

@@ -1,4 +1,6 @@
 //! Numbers in groups of seven bits (unsigned LEB128), in shortest form, up to 4,294,967,295.
+#![tactic(auto)]
+
 ghost use Rattle.std.specs.Prelude.{◌≡◌, ◌≤◌, length, IfOk};
 ghost use Rattle.leb128.specs.Encoding.{encoding};
 ghost use Rattle.leb128.specs.Decoding.{decoding};

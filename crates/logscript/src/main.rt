@@ -1,4 +1,6 @@
-// Runs scripts of log calls and power cuts on a ring log or a flag log, and writes a line for each command.
+//! Runs scripts of log calls and power cuts on a ring log or a flag log, and writes a line for each command.
+#![tactic(auto)]
+
 mod answer;
 mod command;
 mod script;

@@ -1,7 +1,7 @@
 -- A record that is written is read back, and a block that is read is the one that is written of its record.
-use Rattle.std.proofs.Common.{◌≡◌, ℕ, zero, suc, ◌+◌, ◌-◌, ◌<◌, ◌≤◌, Bool, true, false, cond, ◌&&◌, ◌||◌, eqb, ltb, leb, List, [], ◌∷◌, ◌++◌, length, take, drop, set, replicate, Some, None, Ok, Err, Option, Result, sym, refl, ap, ◌∙◌, subst, arith, length-append}
+use Rattle.std.proofs.Common.{◌≡◌, ℕ, zero, suc, ◌+◌, ◌-◌, ◌<◌, ◌≤◌, true, ◌&&◌, eqb, ltb, leb, List, [], ◌∷◌, ◌++◌, length, take, drop, set, replicate, Some, Ok, sym, refl, ap, ◌∙◌, subst, arith, length-append}
 use Rattle.std.specs.List.{flat_map}
-use Rattle.std.proofs.lemmas.List.{drop-drop, drop_at, append_assoc, append-nil, take-append-drop, drop_more, take_more_set, length-replicate}
+use Rattle.std.proofs.lemmas.List.{drop-drop, drop_at, append_assoc, take-append-drop, take_more_set, length-replicate}
 use Rattle.std.proofs.lemmas.Bool.{and_parts, and_from, leb-true, ltb-true, lt-ltb, le-leb, eqb-true, cond-true}
 use Rattle.leb128.specs.declared.decoded.Decoded.{Decoded}
 use Rattle.leb128.specs.Encoding.{encoding}
@@ -9,10 +9,9 @@ use Rattle.leb128.specs.Decoding.{decoding, number}
 use Rattle.leb128.proofs.Trips.{there}
 use Rattle.stripe_set.specs.Rising.{rising}
 use Rattle.zero_bytes.specs.Zeros.{zeros}
-use Rattle.record.specs.Contents.{Contents}
 use Rattle.record.specs.Limits.{allowed}
-use Rattle.record.specs.Form.{opening, distances, body, filled, block}
-use Rattle.record.specs.Reading.{opens, above, prepended, then_stripes, stripes_from, ended, counted, recorded}
+use Rattle.record.specs.Form.{opening, distances, body, block}
+use Rattle.record.specs.Reading.{opens, above, prepended, then_stripes, stripes_from, recorded}
 use Rattle.record.specs.Spelling.{Spelt, SpeltAll}
 use Rattle.record.proofs.Steps.{all_read}
 

@@ -1,10 +1,10 @@
 -- Reading a record step by step.
-use Rattle.std.proofs.Common.{◌≡◌, ℕ, zero, suc, ◌+◌, ◌-◌, ◌<◌, ◌≤◌, Bool, true, false, cond, ◌&&◌, ◌||◌, eqb, ltb, leb, ◌⊎◌, List, [], ◌∷◌, length, take, drop, Some, None, Ok, Err, Option, Result, sym, refl, ap, ◌∙◌, subst, inl, inr, ⊎_elim, arith}
+use Rattle.std.proofs.Common.{◌≡◌, ℕ, zero, suc, ◌+◌, ◌-◌, ◌<◌, ◌≤◌, true, false, ◌&&◌, ltb, leb, List, ◌∷◌, length, take, drop, Some, None, Ok, Err, Option, Result, sym, refl, ap, ◌∙◌, ⊎_elim, arith}
 use Rattle.std.proofs.lemmas.List.{take_rest, length-take-le}
 use Rattle.std.proofs.lemmas.Bool.{and_parts, and_from, or_left, or_right, le-leb, lt-ltb, eq-eqb, leb-true, ltb-true, cond-true, cond-false, cases_Bool, cases_lt}
 use Rattle.leb128.specs.declared.decoded.Decoded.{Decoded}
 use Rattle.leb128.specs.declared.decoded.DecodeError.{DecodeError}
-use Rattle.leb128.specs.Decoding.{decoding, number}
+use Rattle.leb128.specs.Decoding.{decoding}
 use Rattle.stripe_set.specs.Rising.{rising}
 use Rattle.stripe_set.specs.Stripes.{bounded}
 use Rattle.stripe_set.proofs.Lists.{rising_cons, within}

@@ -1,5 +1,5 @@
 -- What the proof of encode goes by.
-use Rattle.std.proofs.Common.{◌≡◌, ℕ, zero, suc, ◌+◌, ◌-◌, ◌*◌, ◌<◌, ◌≤◌, true, List, [], ◌∷◌, ◌++◌, length, get_or, take, drop, set, replicate, sym, refl, ap, ◌∙◌, add-zero, zero-add, arith, length-append}
+use Rattle.std.proofs.Common.{◌≡◌, ℕ, suc, ◌+◌, ◌-◌, ◌*◌, ◌<◌, ◌≤◌, true, List, [], ◌∷◌, ◌++◌, length, get_or, take, drop, set, replicate, sym, ap, ◌∙◌, add-zero, zero-add, arith, length-append}
 use lib.Seq.{sets, sets-eq}
 use Rattle.std.specs.List.{flat_map}
 use Rattle.std.proofs.lemmas.List.{drop-replicate, drop_more, drop-drop, append_assoc}
@@ -8,8 +8,7 @@ use Rattle.leb128.specs.Encoding.{encoding}
 use Rattle.leb128.proofs.Groups.{length_groups}
 use Rattle.stripe_set.specs.Rising.{rising}
 use Rattle.stripe_set.proofs.Lists.{rising_weaker, rising_tail}
-use Rattle.record.specs.Contents.{Contents}
-use Rattle.record.specs.Form.{distances, opening, body, filled, block}
+use Rattle.record.specs.Form.{distances, opening, body, block}
 
 pub sets_append : (l : List ℕ) (i : ℕ) (xs ys : List ℕ) → sets l i (xs ++ ys) ≡ sets (sets l i xs) (i + length xs) ys
 sets_append l i [] ys = rw (add-zero i)

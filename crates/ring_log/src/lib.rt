@@ -1,4 +1,6 @@
 //! The ring log: records in the first blocks of a member store, the highest version of which stands.
+#![tactic(auto)]
+
 ghost use Rattle.std.specs.Prelude.{◌≡◌, ◌+◌, ◌%◌, ◌<◌, ◌≤◌, true, false, ◌&&◌, [], length, Some, MatchResult};
 ghost use Rattle.stripe_set.specs.Stripes.{stripes as listing};
 ghost use Rattle.record.specs.Contents.{contents};

@@ -1,7 +1,7 @@
 -- Rising lists: what they name, and two together.
-use Rattle.std.proofs.Common.{◌≡◌, ℕ, zero, suc, ◌+◌, ◌-◌, ◌<◌, ◌≤◌, Bool, true, false, cond, ◌&&◌, ◌||◌, eqb, ltb, leb, ◌⊎◌, List, [], ◌∷◌, ◌++◌, length, get_or, take, drop, set, Some, None, sym, refl, ap, ◌∙◌, subst, inl, inr, ⊎_elim, add-one, arith}
+use Rattle.std.proofs.Common.{◌≡◌, ℕ, zero, suc, ◌+◌, ◌<◌, ◌≤◌, Bool, true, false, cond, ◌&&◌, ◌||◌, eqb, ltb, leb, ◌⊎◌, List, [], ◌∷◌, ◌++◌, length, get_or, take, drop, set, Some, None, sym, refl, ap, ◌∙◌, subst, inl, inr, ⊎_elim, add-one, arith}
 use Rattle.std.proofs.lemmas.List.{drop_more, take_more_set, append_assoc, append-nil, drop_all, length-drop, length-append, length-take-le, length-set}
-use Rattle.std.proofs.lemmas.Bool.{and_left, and_right, lt-leb, and_parts, and_from, leb-true, ltb-true, lt-ltb, le-ltb, le-leb, ne_eqb, eq-eqb, or_from, or_left, or_right, or_cases, eqb-true, eqb-false, cases_Bool, cond-true, cond-false, ltb-false, cases_order}
+use Rattle.std.proofs.lemmas.Bool.{and_left, and_right, lt-leb, and_parts, and_from, leb-true, ltb-true, lt-ltb, le-ltb, le-leb, ne_eqb, eq-eqb, or_from, or_left, or_right, or_cases, eqb-true, eqb-false, cond-true, cond-false, ltb-false, cases_order}
 use Rattle.stripe_set.specs.Rising.{rising}
 use Rattle.stripe_set.specs.Stripes.{bounded}
 use Rattle.stripe_set.specs.Named.{named, InBoth}

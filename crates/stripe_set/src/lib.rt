@@ -1,4 +1,6 @@
 //! Sets of at most 64 stripe numbers, kept as rising lists.
+#![tactic(auto)]
+
 ghost use Rattle.std.specs.Prelude.{◌≡◌, [], length};
 ghost use Rattle.stripe_set.specs.Rising.{rising as increasing};
 ghost use Rattle.stripe_set.specs.Stripes.{stripes, held, bounded};

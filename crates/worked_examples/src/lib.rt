@@ -1,4 +1,6 @@
 //! Worked examples, proved from the definitions that the contracts cite.
+#![tactic(auto)]
+
 ghost use Rattle.worked_examples.specs.Examples.{Examples};
 
 /// The table of worked examples holds.

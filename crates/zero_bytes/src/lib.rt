@@ -1,4 +1,6 @@
 //! Are bytes all zero?
+#![tactic(auto)]
+
 ghost use Rattle.std.specs.Prelude.{◌≡◌};
 ghost use Rattle.zero_bytes.specs.Zeros.{zeros};
 

@@ -1,4 +1,4 @@
-use Rattle.std.proofs.Common.{◌≡◌, ℕ, ◌+◌, ◌*◌, ◌%◌, ◌^◌, ◌<◌, ◌≤◌, ◌⊎◌, get_or, Ok, sym, refl, ◌∙◌, ⊎_elim, arith, below_more}
+use Rattle.std.proofs.Common.{◌≡◌, ℕ, ◌+◌, ◌*◌, ◌%◌, ◌^◌, ◌<◌, get_or, Ok, sym, ◌∙◌, ⊎_elim, arith, below_more}
 use lib.Bits.{and_mask}
 use Rattle.leb128.specs.Decoding.{number, decoding}
 use Rattle.leb128.proofs.Groups.{top_bit, low_byte}

@@ -1,4 +1,4 @@
-use Rattle.std.proofs.Common.{◌≡◌, ◌+◌, ◌-◌, ◌*◌, ◌^◌, ◌<◌, ◌≤◌, drop}
+use Rattle.std.proofs.Common.{◌≡◌, ◌-◌, ◌*◌, ◌^◌, ◌<◌, ◌≤◌, drop}
 use Rattle.leb128.specs.Decoding.{ungrouped}
 use Rattle.leb128.proofs.Reading.{lifted}
 use Rattle.leb128.proofs.Trips.{Bytes}

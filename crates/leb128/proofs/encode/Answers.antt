@@ -28,7 +28,7 @@ overflow_add-result c = record { fits = omega (arith, length_groups 4 c.args.n, 
 pub invariant_of-result : goal.invariant_of-result
 invariant_of-result c =
     let one : length (encoding c.loop-rest.rest) ≡ 1 = ap length (groups_short 4 c.loop-rest.rest c.loop-rest-test.false) in
-    (length-set c.loop-rest.bytes c.loop-rest.i c.loop-rest.rest ∙ c.loop-rest.invariant.2, (omega arith, (omega (arith, length_groups 4 c.args.n), tt)))
+    record { whole = length-set c.loop-rest.bytes c.loop-rest.i c.loop-rest.rest ∙ c.loop-rest.invariant.2; least = omega arith; most = omega (arith, length_groups 4 c.args.n) }
 
 pub returns : goal.returns
 returns c =

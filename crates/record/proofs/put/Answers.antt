@@ -1,4 +1,4 @@
-use Rattle.std.proofs.Common.{◌≡◌, ◌+◌, length, sym, ap, ◌∙◌, arith}
+use Rattle.std.proofs.Common.{◌≡◌, ◌+◌, length, ap, ◌∙◌, arith}
 use Rattle.leb128.specs.Encoding.{encoding}
 use Rattle.leb128.proofs.Groups.{length_groups, length_positive}
 use Rattle.record.proofs.Writing.{copied}

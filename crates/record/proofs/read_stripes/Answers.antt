@@ -1,8 +1,8 @@
-use Rattle.std.proofs.Common.{◌≡◌, ℕ, ◌-◌, List, [], ◌∷◌, ◌++◌, take, sym, refl, ap, ◌∙◌, subst, arith}
+use Rattle.std.proofs.Common.{◌≡◌, ℕ, ◌-◌, List, [], take, sym, refl, ap, ◌∙◌, subst, arith}
 use Rattle.std.proofs.lemmas.List.{append-nil}
 use Rattle.record.specs.Reading.{stripes_from}
 use Rattle.record.specs.Spelling.{SpeltAll}
-use Rattle.record.proofs.Stripes.{front, front_none, at_none, at_some, at_end}
+use Rattle.record.proofs.Stripes.{front, at_none, at_some, at_end}
 use Rattle.record.proofs.RoundTrip.{spelt_on}
 use Rattle.record.proofs.read_stripes.Goals as goal
 

@@ -1,6 +1,5 @@
-use Rattle.std.proofs.Common.{◌≡◌, ℕ, ◌+◌, ◌-◌, List, take, sym, ap, ◌∙◌, subst, arith, length-drop, length-take}
+use Rattle.std.proofs.Common.{◌≡◌, ℕ, ◌+◌, ◌-◌, take, sym, ap, ◌∙◌, subst, arith, length-drop, length-take}
 use Rattle.std.proofs.lemmas.List.{take_rest}
-use Rattle.leb128.specs.Encoding.{encoding}
 use Rattle.leb128.specs.Decoding.{decoding}
 use Rattle.record.specs.Reading.{above}
 use Rattle.record.specs.Spelling.{Spelt}

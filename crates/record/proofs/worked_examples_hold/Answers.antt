@@ -1,4 +1,4 @@
-use Rattle.std.proofs.Common.{ℕ, List, refl, ap, ◌∙◌}
+use Rattle.std.proofs.Common.{refl, ap, ◌∙◌}
 use Rattle.leb128.specs.Encoding.{groups}
 use Rattle.leb128.specs.Decoding.{ungrouped}
 use Rattle.record.specs.Form.{body}

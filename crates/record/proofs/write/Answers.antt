@@ -1,8 +1,5 @@
-use Rattle.std.proofs.Common.{◌≡◌, length, sym, refl, ap, ◌∙◌, arith, rules}
-use Rattle.std.specs.List.{flat_map}
+use Rattle.std.proofs.Common.{◌∙◌, arith}
 use Rattle.std.proofs.lemmas.List.{drop_all}
-use Rattle.leb128.specs.Encoding.{encoding}
-use Rattle.record.specs.Form.{distances}
 use Rattle.record.proofs.Writing.{begun, written_more, next, whole, opened}
 use Rattle.record.proofs.write.Goals as goal
 

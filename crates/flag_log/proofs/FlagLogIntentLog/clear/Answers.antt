@@ -1,11 +1,11 @@
-use Rattle.std.proofs.Common.{◌≡◌, true, false, ◌&&◌, ◌⊎◌, is_some, Some, None, sym, refl, ap, ◌∙◌, inl, inr}
+use Rattle.std.proofs.Common.{◌≡◌, true, ◌&&◌, Some, sym, refl, ◌∙◌}
 use Rattle.std.proofs.lemmas.Bool.{false≢true}
 use Rattle.member_store.specs.Meaning.{current}
 use Rattle.intent_log.specs.Meaning.{Standing}
-use Rattle.intent_log.specs.Calls.{Includes, NamesList, NamesNothing, mark_checks, fresh_checks, power_checks}
-use Rattle.flag_log.specs.declared.flag.FlagRecord.TheVariants.{NamesNothing as NothingFlag, NamesEvery}
+use Rattle.intent_log.specs.Calls.{Includes, NamesNothing, power_checks}
+use Rattle.flag_log.specs.declared.flag.FlagRecord.TheVariants.{NamesNothing as NothingFlag}
 use Rattle.flag_log.specs.Form.{flag_record}
-use Rattle.flag_log.specs.Flag.{standing_of, flag, Sound}
+use Rattle.flag_log.specs.Flag.{standing_of, flag}
 use Rattle.flag_log.specs.Puts.{first_block, sound_after, changes, own}
 use Rattle.flag_log.proofs.FlagLogIntentLog.clear.Goals as goal
 

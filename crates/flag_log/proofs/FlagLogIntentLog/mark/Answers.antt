@@ -1,9 +1,8 @@
-use Rattle.std.proofs.Common.{◌≡◌, true, false, not, ◌&&◌, ◌⊎◌, is_some, Some, None, sym, refl, ap, ◌∙◌, inl, inr}
-use Rattle.std.proofs.lemmas.Bool.{false≢true}
+use Rattle.std.proofs.Common.{◌≡◌, true, not, ◌&&◌, is_some, Some, sym, refl, ap, ◌∙◌}
 use Rattle.member_store.specs.Meaning.{current}
 use Rattle.intent_log.specs.Meaning.{Standing}
-use Rattle.intent_log.specs.Calls.{Includes, NamesList, NamesNothing, mark_checks, fresh_checks, power_checks}
-use Rattle.flag_log.specs.declared.flag.FlagRecord.TheVariants.{NamesNothing as NothingFlag, NamesEvery}
+use Rattle.intent_log.specs.Calls.{Includes, NamesList, mark_checks}
+use Rattle.flag_log.specs.declared.flag.FlagRecord.TheVariants.{NamesEvery}
 use Rattle.flag_log.specs.Form.{flag_record}
 use Rattle.flag_log.specs.Flag.{standing_of, flag, Sound}
 use Rattle.flag_log.specs.Puts.{first_block, sound_after, changes, own}

@@ -1,4 +1,4 @@
-use Rattle.std.proofs.Common.{◌≡◌, true, sym, refl, subst, inl}
+use Rattle.std.proofs.Common.{true, sym, refl, subst, inl}
 use Rattle.intent_log.specs.Meaning.{MayStand}
 use Rattle.intent_log.specs.Calls.{ChangeDone}
 use Rattle.flag_log.specs.Flag.{flag, Steady}

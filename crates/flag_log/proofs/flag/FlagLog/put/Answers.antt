@@ -1,4 +1,4 @@
-use Rattle.std.proofs.Common.{◌≡◌, ℕ, List, [], ◌∷◌, Ok, Err, refl, subst}
+use Rattle.std.proofs.Common.{ℕ, List, [], ◌∷◌, Ok, Err, refl, subst}
 use Rattle.device_calls.specs.Lists as device
 use Rattle.intent_log.specs.Devices.{Makes}
 use Rattle.flag_log.proofs.flag.FlagLog.put.Goals as goal

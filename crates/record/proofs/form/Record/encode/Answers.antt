@@ -1,7 +1,7 @@
-use Rattle.std.proofs.Common.{◌≡◌, ℕ, ◌<◌, ◌≤◌, true, List, length, sym, refl, ap, ◌∙◌, arith}
+use Rattle.std.proofs.Common.{◌≡◌, ℕ, ◌<◌, ◌≤◌, List, length, ap, ◌∙◌, arith}
 use Rattle.std.proofs.lemmas.List.{length-take-le}
 use Rattle.stripe_set.specs.Stripes.{stripes}
-use Rattle.record.specs.Contents.{Contents, contents}
+use Rattle.record.specs.Contents.{contents}
 use Rattle.record.specs.Form.{block}
 use Rattle.record.specs.Reading.{recorded}
 use Rattle.record.proofs.Steps.{allows}

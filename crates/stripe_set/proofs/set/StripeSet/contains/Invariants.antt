@@ -1,4 +1,4 @@
-use Rattle.std.proofs.Common.{◌≡◌, ℕ, ◌≤◌, drop}
+use Rattle.std.proofs.Common.{◌≡◌, drop}
 use Rattle.stripe_set.specs.Named.{named}
 use Rattle.stripe_set.proofs.set.StripeSet.contains.Given as goal
 

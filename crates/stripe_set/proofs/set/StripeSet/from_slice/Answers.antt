@@ -24,7 +24,7 @@ pub invariant_of-result : goal.invariant_of-result
 invariant_of-result c =
     let v = c.loop-i in
     let l = c.args.list.now in
-    (v.invariant.0, (omega arith, (ap (rising 0) (same v.items l v.i v.invariant.1 v.auto.i-end c.loop-i-test.false) ∙ sym c.is_rising.ensures ∙ c.if-not-is_rising.false, tt)))
+    record { whole = v.invariant.0; few = omega arith; rising = ap (rising 0) (same v.items l v.i v.invariant.1 v.auto.i-end c.loop-i-test.false) ∙ sym c.is_rising.ensures ∙ c.if-not-is_rising.false }
 
 pub returns : goal.returns
 returns c =

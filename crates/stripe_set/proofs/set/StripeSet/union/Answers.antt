@@ -1,4 +1,4 @@
-use Rattle.std.proofs.Common.{◌≡◌, ℕ, ◌+◌, ◌<◌, ◌≤◌, true, ◌⊎◌, List, length, get_or, take, Some, sym, refl, ap, ◌∙◌, subst, inl, inr, arith}
+use Rattle.std.proofs.Common.{◌≡◌, ℕ, ◌+◌, ◌<◌, ◌≤◌, true, ◌⊎◌, List, length, get_or, take, Some, sym, ap, ◌∙◌, subst, inl, inr, arith}
 use Rattle.std.proofs.lemmas.List.{length-take-le}
 use Rattle.stripe_set.specs.Stripes.{bounded}
 use Rattle.stripe_set.specs.Rising.{rising}
@@ -46,7 +46,7 @@ invariant_of-result c =
     let up : rising 0 own ≡ true = subst (λ (l : List ℕ). rising 0 l ≡ true) (sym c.as_slice-own.ensures) c.args.self.now.rising in
     let up' : rising 0 list ≡ true = subst (λ (l : List ℕ). rising 0 l ≡ true) (sym c.as_slice-list.ensures) c.args.other.now.rising in
     let all : take v.len v.items ≡ merged own list = all_taken v.items own list v.len v.i v.j v.invariant c.if-i-own.false c.if-j-list.false in
-    (v.invariant.1, (v.invariant.0, (ap (rising 0) all ∙ merged_rising own 0 list up up', tt)))
+    record { whole = v.invariant.1; few = v.invariant.0; rising = ap (rising 0) all ∙ merged_rising own 0 list up up' }
 
 pub returns : goal.returns
 returns c =
