@@ -1,4 +1,4 @@
-use Rattle.std.proofs.Common.{◌≡◌, ◌-◌, ◌<◌, length, ◌∙◌, arith, length-set}
+use Rattle.std.proofs.Common.{◌-◌, ◌<◌, length, ◌∙◌, arith, length-set}
 use Rattle.geometry.specs.Counts.{members_of}
 use Rattle.stripe_work.specs.Stripe.{stripe_at, data_at}
 use Rattle.stripe_work.proofs.Rows.{row_more}

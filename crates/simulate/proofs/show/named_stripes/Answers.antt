@@ -1,4 +1,4 @@
-use Rattle.std.proofs.Common.{◌≡◌, ℕ, true, false, sym, ap, ◌∙◌, add-zero, arith, rules}
+use Rattle.std.proofs.Common.{◌≡◌, true, false, sym, ap, ◌∙◌, add-zero, arith, rules}
 use Rattle.simulate.specs.Counts.{named_below}
 use Rattle.simulate.proofs.Looks.{named_more, found, not_found}
 use Rattle.simulate.proofs.show.named_stripes.Goals as goal
