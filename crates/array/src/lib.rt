@@ -1,4 +1,6 @@
 //! The array: its calls over any member store, log and layout.
+#![tactic(auto)]
+
 pub mod array;
 mod block;
 mod checks;

@@ -1,23 +1,21 @@
 -- Stripes that stay right, what a barrier leaves, and single actions. Assumes nothing.
-use Rattle.std.proofs.Common.{◌≡◌, ℕ, ◌<◌, ◌⊎◌, List, [], ◌∷◌, length, Ok, Err, sym, refl, ap, ◌∙◌, subst, inl, inr}
+use Rattle.std.proofs.Common.{◌≡◌, ℕ, ◌<◌, List, [], ◌∷◌, length, sym, ap, ◌∙◌, subst, inl, inr}
 use Rattle.parity.specs.Xor.{parity_of}
 use Rattle.member_store.specs.Meaning as store
 use Rattle.member_store.specs.Meaning.{current, Version}
 use Rattle.member_store.specs.declared.refusal.Refusal.{Refusal}
 use Rattle.device_calls.specs.Lists.{DeviceCall, barrier, Completed, Stopped}
 use Rattle.intent_log.specs.Meaning as intent
-use Rattle.intent_log.specs.Calls.{Clears}
-use Rattle.intent_log.specs.declared.refusal.LogRefusal.{LogRefusal}
-use Rattle.stripe_work.specs.Stripe.{data_at, stripe_data, RightParity}
+use Rattle.stripe_work.specs.Stripe.{data_at, RightParity}
 use Rattle.stripe_work.proofs.Rows.{listed_same}
 use Rattle.array_model.specs.Meaning.{Geometry, stripe_count, stripe}
-use Rattle.array_model.specs.Work.{Action, devices, clear, AllAccepted, FirstRefused}
+use Rattle.array_model.specs.Work.{devices, AllAccepted, FirstRefused}
 use Rattle.array_model.specs.Book.{Book}
 use Rattle.array_model.specs.declared.refusal.ArrayRefusal.{ArrayRefusal}
-use Rattle.array_model.specs.declared.refusal.ArrayRefusal.TheVariants.{Members, Log}
+use Rattle.array_model.specs.declared.refusal.ArrayRefusal.TheVariants.{Members}
 use Rattle.array_model.proofs.Places.{Facts, width}
 use Rattle.array_model.proofs.Inv.{On, Each, Sized, stands, member_below, parity_below, Known, BookSized, Crash, AllClean, barred_clean, clean_crash}
-use Rattle.array_model.proofs.Effects.{completed_has, barrier_current, barrier_only, barrier_sized}
+use Rattle.array_model.proofs.Effects.{completed_has, barrier_current, barrier_only}
 
 -- single actions
 

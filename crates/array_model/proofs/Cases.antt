@@ -1,5 +1,5 @@
 -- The cases of a call: by state, by checks, by what the checks say. Assumes nothing.
-use Rattle.std.proofs.Common.{◌≡◌, ℕ, ◌<◌, ◌≤◌, Bool, true, false, cond, eqb, ltb, ◌⊎◌, List, [], ◌∷◌, Some, None, Ok, Err, Option, Result, sym, refl, ap, ◌∙◌, subst, inl, inr, arith}
+use Rattle.std.proofs.Common.{◌≡◌, ℕ, ◌<◌, ◌≤◌, Bool, true, false, cond, eqb, ltb, ◌⊎◌, Some, None, Ok, Err, Option, Result, sym, refl, subst, inl, inr, arith}
 use Rattle.std.proofs.lemmas.Bool.{ltb-true, eqb-true, leb-true, and_parts}
 use Rattle.std.specs.Option.{option_or}
 use Rattle.geometry.specs.Counts.{counts_allowed, members_allowed}
@@ -7,7 +7,6 @@ use Rattle.array_model.specs.Meaning.{Meaning, Geometry, block_count}
 use Rattle.array_model.specs.Work.{Declines}
 use Rattle.array_model.specs.Checks.{block_checks}
 use Rattle.array_model.specs.Calls.{Checked, NotAllowed, InDown, InResync, InReady, InShort}
-use Rattle.array_model.specs.Book.{Book, Since}
 use Rattle.array_model.specs.declared.state.Progress.{Progress}
 use Rattle.array_model.specs.declared.state.State.{State}
 use Rattle.array_model.specs.declared.state.State.TheVariants.{Fallen, Down, Resync, Ready, Short}

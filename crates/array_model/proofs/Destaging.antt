@@ -1,33 +1,31 @@
 -- Destages keep what is known of a ready array. Assumes nothing.
-use Rattle.std.proofs.Common.{◌≡◌, ℕ, ◌<◌, Bool, true, false, cond, ◌⊎◌, List, [], ◌∷◌, length, Some, None, Ok, Err, Option, Result, sym, refl, ap, ◌∙◌, subst, inl, inr}
+use Rattle.std.proofs.Common.{◌≡◌, ℕ, ◌<◌, Bool, true, false, cond, List, [], ◌∷◌, length, Some, None, Option, sym, refl, ap, ◌∙◌, subst, inl, inr}
 use native.Mathlib.Decide.{ℕ_discrete}
-use Rattle.parity.specs.Xor.{parity_of}
 use Rattle.member_store.specs.Meaning as store
 use Rattle.member_store.specs.Meaning.{current, In}
 use Rattle.member_store.specs.declared.refusal.Refusal.{Refusal}
-use Rattle.device_calls.specs.Lists.{DeviceCall, barrier, Completed, Stopped}
+use Rattle.device_calls.specs.Lists.{barrier, Completed, Stopped}
 use Rattle.intent_log.specs.Meaning as intent
 use Rattle.intent_log.specs.Meaning.{Standing, MayStand}
 use Rattle.intent_log.specs.Calls as log
-use Rattle.cache.specs.Contents.{Blocks, Contents, exchanged}
-use Rattle.cache.specs.Stripes.{Lowest, Listed, by_position, stripe_freed}
-use Rattle.cache.proofs.Places.{none≢some}
+use Rattle.cache.specs.Contents.{exchanged}
+use Rattle.cache.specs.Stripes.{Listed, by_position, stripe_freed}
 use Rattle.stripe_work.specs.Stripe.{Stripe, data_at, RightParity}
 use Rattle.stripe_work.specs.Work.{CachedBlocks, or_else, merged, destage_calls}
 use Rattle.stripe_work.specs.Outcomes as outcome
 use Rattle.stripe_work.proofs.Parts.{Distinct, distinct}
 use Rattle.stripe_work.proofs.Destaging as lower
 use Rattle.array_model.specs.Meaning.{Meaning, array, named, Geometry, stripe_count, stripe}
-use Rattle.array_model.specs.Work.{Action, devices, mark, fresh, AllAccepted, FirstRefused}
+use Rattle.array_model.specs.Work.{devices, mark, fresh, AllAccepted, FirstRefused}
 use Rattle.array_model.specs.Checks.{all_named}
 use Rattle.array_model.specs.Calls.{naming_actions}
-use Rattle.array_model.specs.Book.{Book, InBook, latest}
+use Rattle.array_model.specs.Book.{Book, InBook}
 use Rattle.array_model.specs.declared.state.State.TheVariants.{Ready}
 use Rattle.array_model.specs.declared.refusal.ArrayRefusal.{ArrayRefusal}
 use Rattle.array_model.proofs.Places.{Facts, width, number, by_number, freed_same, freed_other, freed_was, listed_in, all_named_in}
-use Rattle.array_model.proofs.Inv.{On, has, Each, Grows, Sized, member_below, parity_below, Crash, Guarded, Sure, NoBlocks, InReadiness, destaged, crash_grows, crash_within, crash_log, includes_guarded, sure_guard}
+use Rattle.array_model.proofs.Inv.{On, has, Grows, Sized, member_below, Crash, Guarded, Sure, NoBlocks, InReadiness, destaged, crash_grows, crash_within, crash_log, includes_guarded, sure_guard}
 use Rattle.array_model.proofs.Effects.{Destages, destage_stores, completed_grows, stopped_grows, stopped_on, completed_has, parity_sized, barrier_current, barrier_sized, barrier_cut, log_refused}
-use Rattle.array_model.proofs.Barriers.{right_same, bar_known, bar_right, bar_crash}
+use Rattle.array_model.proofs.Barriers.{right_same, bar_crash}
 
 module _ (g : Geometry) (f : Facts g) (b : Book) (s : Meaning) (i : InReadiness g b s) where
   -- STRIPE k OF THE DESTAGING CACHE

@@ -1,5 +1,5 @@
 -- What the lists of device calls and the changes of a log leave. Assumes nothing.
-use Rattle.std.proofs.Common.{◌≡◌, ℕ, zero, suc, ◌+◌, ◌-◌, ◌<◌, ◌≤◌, Bool, true, false, cond, ◌⊎◌, List, [], ◌∷◌, ◌++◌, map, length, Some, None, Ok, Err, Option, Result, sym, refl, ap, ◌∙◌, subst, inl, inr, ⊎_elim, arith}
+use Rattle.std.proofs.Common.{◌≡◌, ℕ, zero, suc, ◌+◌, ◌<◌, ◌≤◌, Bool, true, false, cond, ◌⊎◌, List, [], ◌∷◌, ◌++◌, map, length, Some, None, Option, sym, refl, ap, ◌∙◌, subst, inl, inr, arith}
 use native.Mathlib.Decide.{ℕ_discrete}
 use Rattle.std.specs.List.{range_with_len}
 use Rattle.std.proofs.lemmas.List.{length-replicate}
@@ -7,28 +7,27 @@ use Rattle.parity.specs.Xor.{zeros, parity_of, Whole}
 use Rattle.parity.proofs.Others.{parity_length}
 use Rattle.member_store.specs.Meaning as store
 use Rattle.member_store.specs.Meaning.{current, Version, HasBlock}
-use Rattle.member_store.specs.Calls.{SameCounts, Cut, Barred}
+use Rattle.member_store.specs.Calls.{Barred}
 use Rattle.member_store.specs.Refusals as device
 use Rattle.member_store.specs.declared.refusal.Refusal.{Refusal}
 use Rattle.member_store.specs.declared.refusal.Refusal.TheVariants as device_cause
 use Rattle.device_calls.specs.Lists.{DeviceCall, read, store, barrier, Accepted, Completed, Stopped, for_each}
-use Rattle.device_calls.specs.Effects.{Every, InRange, Spares, Reading, Writes, Written, CutShort}
+use Rattle.device_calls.specs.Effects.{Every, InRange, Written}
 use Rattle.device_calls.proofs.Append.{completed_split}
 use Rattle.device_calls.proofs.Properties.{every_then, every_for_each}
-use Rattle.device_calls.proofs.Left.{completed_counts, completed_on, completed_gains, completed_barred, completed_reading, cut_short, cut_reading, still_has, counts_refl}
+use Rattle.device_calls.proofs.Left.{completed_counts, completed_gains, completed_barred, cut_short, still_has}
 use Rattle.intent_log.specs.Meaning as intent
 use Rattle.intent_log.specs.Calls as log
 use Rattle.intent_log.specs.Refusals as log_refusal
 use Rattle.intent_log.specs.declared.refusal.LogRefusal.{LogRefusal}
 use Rattle.intent_log.specs.declared.refusal.LogRefusal.TheVariants as log_cause
 use Rattle.stripe_work.specs.Stripe.{Stripe, listed, data_at, stripe_data, parity_right}
-use Rattle.stripe_work.specs.Work.{CachedBlocks, or_else, merged, merged_data, uncached_read, cached_store, data_reads, data_stores, parity_store, destage_calls, check_calls, resync_calls}
+use Rattle.stripe_work.specs.Work.{CachedBlocks, merged, merged_data, cached_store, data_reads, data_stores, parity_store, destage_calls, check_calls, resync_calls}
 use Rattle.stripe_work.proofs.Parts.{reads_every, check_every}
 use Rattle.array_model.specs.Refusals.{number}
-use Rattle.array_model.specs.Meaning.{Geometry, stripe}
+use Rattle.array_model.specs.Meaning.{Geometry}
 use Rattle.array_model.specs.Calls.{zero_calls}
 use Rattle.array_model.specs.declared.refusal.ArrayRefusal.TheVariants.{Members, Log}
-use Rattle.array_model.proofs.Places.{width}
 use Rattle.array_model.proofs.Inv.{On, has, on_then, Each, Grows, Sized}
 
 -- what a call stores is one of Q

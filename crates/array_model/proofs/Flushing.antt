@@ -1,21 +1,21 @@
 -- Destage, flush and close keep what is known. Assumes nothing.
-use Rattle.std.proofs.Common.{◌≡◌, ℕ, ◌+◌, ◌<◌, Bool, true, false, cond, ◌⊎◌, List, [], ◌∷◌, length, Some, None, Ok, Err, Option, Result, sym, refl, ap, ◌∙◌, subst, inl, inr, arith}
+use Rattle.std.proofs.Common.{◌≡◌, ℕ, ◌<◌, true, ◌⊎◌, List, [], ◌∷◌, length, Some, None, Ok, Err, Option, Result, sym, refl, ap, ◌∙◌, subst, inl, inr, arith}
 use Rattle.std.specs.Option as options
 use Rattle.std.specs.Result as results
 use Rattle.member_store.specs.Meaning as store
 use Rattle.member_store.specs.Meaning.{current, Version, In}
-use Rattle.device_calls.specs.Lists.{DeviceCall, barrier, Completed, Stopped}
+use Rattle.device_calls.specs.Lists.{barrier, Completed}
 use Rattle.intent_log.specs.Meaning as intent
 use Rattle.intent_log.specs.Calls as log
-use Rattle.cache.specs.Contents.{Contents, empty, exchanged}
+use Rattle.cache.specs.Contents.{empty, exchanged}
 use Rattle.cache.specs.Stripes.{Lowest, Listed, by_position, stripe_freed}
 use Rattle.cache.proofs.Places.{none≢some}
-use Rattle.stripe_work.specs.Stripe.{data_at, RightParity}
+use Rattle.stripe_work.specs.Stripe.{data_at}
 use Rattle.stripe_work.specs.Work.{or_else, destage_calls}
 use Rattle.array_model.specs.Meaning.{Meaning, array, in_state, named, Geometry, stripe_count, stripe}
-use Rattle.array_model.specs.Work.{Action, devices, clear, AllAccepted, FirstRefused, Performs, Declines}
+use Rattle.array_model.specs.Work.{clear, Performs}
 use Rattle.array_model.specs.Checks.{naming_check}
-use Rattle.array_model.specs.Calls.{Plain, Checked, InReady, naming_actions, puts, ChangesCaches, MovesStripe, DestagesReady, Destages, Drains, begin, then_moved, then_changed, Settles, FlushesReady, Flushes, ClosesReady, Closes}
+use Rattle.array_model.specs.Calls.{Plain, InReady, naming_actions, puts, ChangesCaches, MovesStripe, DestagesReady, Destages, Drains, begin, then_moved, then_changed, Settles, FlushesReady, Flushes, ClosesReady, Closes}
 use Rattle.array_model.specs.Book.{Book, InBook, newest_of, latest, settled, Since, booked, flush, close}
 use Rattle.array_model.specs.declared.state.State.{State}
 use Rattle.array_model.specs.declared.state.State.TheVariants.{Fallen, Down, Ready}
@@ -25,7 +25,7 @@ use Rattle.array_model.specs.declared.answer.FlushCounts.{FlushCounts}
 use Rattle.array_model.specs.declared.refusal.ArrayRefusal.{ArrayRefusal}
 use Rattle.array_model.specs.declared.refusal.ArrayRefusal.TheVariants.{WrongState}
 use Rattle.array_model.proofs.Places.{Facts, width, number, lowest_none, lowest_some, listed_none}
-use Rattle.array_model.proofs.Inv.{On, Each, Sized, stands, member_below, Known, BookSized, Crash, AllClean, Sure, NoBlocks, Calm, InReadiness, InvIn, Inv, crash_within, clean_crash}
+use Rattle.array_model.proofs.Inv.{On, Sized, member_below, Known, BookSized, Crash, AllClean, NoBlocks, Calm, InReadiness, InvIn, Inv, crash_within, clean_crash}
 use Rattle.array_model.proofs.Effects.{completed_has, stopped_on, barrier_current, barrier_only, barrier_sized, barrier_cut}
 use Rattle.array_model.proofs.Barriers.{accepted_devices, refused_devices, bar_known, bar_whole, bar_clean, bar_right}
 use Rattle.array_model.proofs.Destaging.{moved_ready, moved_cut, named_ready, naming_cut}

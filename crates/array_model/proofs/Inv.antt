@@ -1,20 +1,19 @@
 -- What every call keeps. Assumes nothing.
-use Rattle.std.proofs.Common.{◌≡◌, ℕ, zero, suc, ◌+◌, ◌-◌, ◌<◌, ◌≤◌, Bool, true, false, cond, ◌⊎◌, List, [], ◌∷◌, length, Some, None, Option, sym, refl, ap, ◌∙◌, subst, inl, inr, arith}
+use Rattle.std.proofs.Common.{◌≡◌, ℕ, ◌<◌, ◌≤◌, Bool, true, false, ◌⊎◌, List, [], ◌∷◌, length, Some, None, sym, refl, ap, ◌∙◌, subst, inl, inr, arith}
 use Rattle.std.proofs.lemmas.Bool.{true≢false}
-use Rattle.geometry.specs.Layouts.{Lawful}
-use Rattle.parity.specs.Xor.{zeros, parity_of}
+use Rattle.parity.specs.Xor.{parity_of}
 use Rattle.member_store.specs.Meaning.{last_or, In, current, Version, HasBlock}
 use Rattle.member_store.specs.Meaning as store
-use Rattle.member_store.specs.Calls.{SameCounts, Barred}
+use Rattle.member_store.specs.Calls.{SameCounts}
 use Rattle.intent_log.specs.Meaning as intent
 use Rattle.intent_log.specs.Meaning.{Standing, MayStand}
 use Rattle.intent_log.specs.Calls.{Includes}
-use Rattle.cache.specs.Contents.{Blocks, Contents}
+use Rattle.cache.specs.Contents.{Blocks}
 use Rattle.cache.specs.Stripes.{count_below}
-use Rattle.stripe_work.specs.Stripe.{Stripe, listed, data_at, stripe_data, parity_at, RightParity}
+use Rattle.stripe_work.specs.Stripe.{listed, data_at, parity_at, RightParity}
 use Rattle.stripe_work.specs.Work.{or_else}
 use Rattle.stripe_work.proofs.Rows.{listed_same}
-use Rattle.array_model.specs.Meaning.{Meaning, array, named, Arrange, Geometry, geometry, stripe_count, stripe, block_count, home, position, holder, held}
+use Rattle.array_model.specs.Meaning.{Meaning, named, Geometry, stripe_count, stripe}
 use Rattle.array_model.specs.Book.{Book, InBook, latest, Since}
 use Rattle.array_model.specs.declared.state.Progress.{Progress}
 use Rattle.array_model.specs.declared.state.State.{State}

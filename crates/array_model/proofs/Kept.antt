@@ -1,5 +1,5 @@
 -- Every call keeps what is known, so every run has it. Assumes nothing.
-use Rattle.std.proofs.Common.{◌≡◌, ℕ, ◌<◌, Bool, true, false, cond, List, Some, None, Ok, Err, sym, refl, ap, ◌∙◌, subst}
+use Rattle.std.proofs.Common.{◌≡◌, ℕ, Bool, true, false, cond, List, Some, None, Ok, sym, refl, ap, ◌∙◌, subst}
 use Rattle.geometry.specs.Counts.{counts_allowed}
 use Rattle.member_store.specs.Meaning as store
 use Rattle.cache.specs.Contents.{Contents, empty}
@@ -13,7 +13,7 @@ use Rattle.array_model.specs.declared.state.State.{State}
 use Rattle.array_model.specs.declared.state.State.TheVariants.{Fallen, Down, Resync, Ready, Short}
 use Rattle.array_model.specs.declared.refusal.ArrayRefusal.TheVariants.{Limits}
 use Rattle.array_model.proofs.Places.{Facts, number}
-use Rattle.array_model.proofs.Inv.{On, Crash, Calm, InvIn, Inv, inv_crash}
+use Rattle.array_model.proofs.Inv.{InvIn, Inv, inv_crash}
 use Rattle.array_model.proofs.Cases.{ok≢err, in_down, allowed_low}
 use Rattle.array_model.proofs.Opening.{keep_power_on, keep_format, keep_open, keep_open_short, keep_step, keep_finish, formatted_calm}
 use Rattle.array_model.proofs.Writing.{keep_write, keep_read}

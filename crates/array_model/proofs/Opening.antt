@@ -1,5 +1,5 @@
 -- Power-on, format, the openings, step and finish keep what is known. Assumes nothing.
-use Rattle.std.proofs.Common.{◌≡◌, ℕ, zero, suc, ◌+◌, ◌<◌, ◌≤◌, Bool, true, false, cond, not, eqb, ◌⊎◌, List, [], ◌∷◌, ◌++◌, map, length, replicate, Some, None, Ok, Err, Option, Result, sym, refl, ap, ◌∙◌, subst, inl, inr, zero-le, arith}
+use Rattle.std.proofs.Common.{◌≡◌, ℕ, zero, suc, ◌+◌, Bool, true, false, cond, not, ◌⊎◌, List, [], ◌∷◌, ◌++◌, map, length, replicate, Some, None, Ok, Err, Option, Result, sym, refl, ap, ◌∙◌, subst, inl, inr, zero-le, arith}
 use Rattle.std.specs.List.{range_with_len}
 use Rattle.std.proofs.lemmas.Bool.{true≢false, eq-eqb}
 use Rattle.std.specs.Option as options
@@ -11,32 +11,30 @@ use Rattle.member_store.specs.Meaning as store
 use Rattle.member_store.specs.Meaning.{current, Version, In}
 use Rattle.member_store.specs.Calls.{PoweredOn}
 use Rattle.member_store.specs.declared.refusal.Refusal.{Refusal}
-use Rattle.device_calls.specs.Lists.{DeviceCall, barrier, Completed, Stopped}
-use Rattle.device_calls.proofs.Left.{cut_short, every_range_was, counts_refl}
+use Rattle.device_calls.specs.Lists.{barrier, Completed, Stopped}
+use Rattle.device_calls.proofs.Left.{cut_short}
 use Rattle.intent_log.specs.Meaning as intent
 use Rattle.intent_log.specs.Meaning.{Standing, MayStand}
 use Rattle.intent_log.specs.Calls as log
 use Rattle.intent_log.specs.declared.refusal.LogRefusal.{LogRefusal}
-use Rattle.cache.specs.Contents.{Contents, empty}
+use Rattle.cache.specs.Contents.{Contents}
 use Rattle.stripe_work.specs.Stripe.{listed, parity_right}
 use Rattle.stripe_work.specs.Work.{resync_calls}
-use Rattle.stripe_work.proofs.Rows.{listed_same}
 use Rattle.array_model.specs.Refusals.{number}
-use Rattle.array_model.specs.Meaning.{Meaning, array, in_state, Geometry, stripe_count, stripe, held}
-use Rattle.array_model.specs.Work.{Action, devices, clear, blank, AllAccepted, FirstRefused, Performs, Declines}
+use Rattle.array_model.specs.Meaning.{Meaning, array, in_state, Geometry, stripe, held}
+use Rattle.array_model.specs.Work.{AllAccepted, FirstRefused, Performs}
 use Rattle.array_model.specs.Checks.{limits_check, record_check, member_check, open_checks, open_short_checks}
-use Rattle.array_model.specs.Calls.{Plain, Checked, NotAllowed, PowersOn, zero_calls, format_actions, Formats, begun, Opens, OpensShort, NextDue, taken, Takes, StepsFrom, Steps, totals, finish_actions, FinishesFrom, Finishes}
+use Rattle.array_model.specs.Calls.{Plain, Checked, PowersOn, zero_calls, format_actions, Formats, begun, Opens, OpensShort, NextDue, taken, Takes, StepsFrom, Steps, totals, finish_actions, FinishesFrom, Finishes}
 use Rattle.array_model.specs.Book.{Book, InBook, holding, zero_book, add_zeros, Since, told, booked, since, format, open_whole, step, finish}
 use Rattle.array_model.specs.declared.state.Progress.{Progress}
-use Rattle.array_model.specs.declared.state.State.{State}
-use Rattle.array_model.specs.declared.state.State.TheVariants.{Fallen, Down, Resync, Ready, Short}
+use Rattle.array_model.specs.declared.state.State.TheVariants.{Down, Resync, Ready, Short}
 use Rattle.array_model.specs.declared.answer.Step.{Step}
 use Rattle.array_model.specs.declared.answer.Step.TheVariants.{Taken, NoneLeft}
 use Rattle.array_model.specs.declared.answer.ResyncCounts.{ResyncCounts}
 use Rattle.array_model.specs.declared.refusal.ArrayRefusal.{ArrayRefusal}
 use Rattle.array_model.specs.declared.refusal.ArrayRefusal.TheVariants.{Members, Log, Limits, WrongState, NoRecord, StripeLeft}
 use Rattle.array_model.proofs.Places.{Facts, width}
-use Rattle.array_model.proofs.Inv.{On, has, on_then, Each, Grows, Sized, member_below, parity_below, Clean, Guarded, Known, BookSized, Crash, AllClean, Sure, NoBlocks, Calm, InResyncing, InReadiness, InvIn, Inv, inv_crash, crash_within, crash_log, clean_crash, sure_guard}
+use Rattle.array_model.proofs.Inv.{On, has, on_then, Each, Grows, Sized, member_below, parity_below, Guarded, Known, BookSized, Crash, AllClean, Sure, NoBlocks, Calm, InResyncing, InvIn, Inv, inv_crash, crash_within, crash_log, clean_crash, sure_guard}
 use Rattle.array_model.proofs.Effects.{IsZeros, zero_stores, zero_range, zeroed_only, zeroed_current, zeros_length, completed_has, stopped_on, stopped_grows, off_one, power_refused, log_refused, barrier_cut}
 use Rattle.array_model.proofs.Barriers.{accepted_devices, refused_devices}
 use Rattle.array_model.proofs.Resyncing.{step_cut, step_taken, finish_ready, finish_crash}

@@ -1,18 +1,17 @@
 -- Blocks by number and by stripe and position, in a cache and in a list of stripes. Assumes nothing.
-use Rattle.std.proofs.Common.{◌≡◌, ℕ, zero, suc, ◌+◌, ◌-◌, ◌*◌, ◌<◌, ◌≤◌, Bool, true, false, cond, ◌&&◌, eqb, ltb, ◌⊎◌, List, [], ◌∷◌, length, get_or, is_some, Some, None, Option, sym, refl, ap, ◌∙◌, subst, inl, inr, ⊎_elim, arith}
-use native.Mathlib.Decide.{ℕ_discrete}
-use Rattle.std.proofs.lemmas.Bool.{true≢false, ltb-true, lt-ltb, eq-eqb, ne_eqb, and_parts, cases_Bool, and_from}
+use Rattle.std.proofs.Common.{◌≡◌, ℕ, zero, suc, ◌-◌, ◌<◌, ◌≤◌, Bool, true, false, cond, ltb, List, [], ◌∷◌, length, get_or, is_some, Some, None, Option, sym, refl, ap, ◌∙◌, subst, inl, inr, arith}
+use Rattle.std.proofs.lemmas.Bool.{true≢false, ltb-true, lt-ltb, eq-eqb, ne_eqb, and_parts}
 use Rattle.std.proofs.lemmas.Nat.{div-mul-add, mod-mul-add, div-add-mod'}
 use Rattle.std.specs.Option.{option_map}
 use Rattle.geometry.specs.Layouts.{Lawful}
-use Rattle.geometry.specs.Places.{stripe_of, position_of, block_number, data_blocks, located, numbered}
+use Rattle.geometry.specs.Places.{block_number}
 use Rattle.geometry.specs.declared.place.Location.{Location}
 use Rattle.geometry.proofs.Numbers.{number_below, stripe_below, position_below}
 use Rattle.member_store.specs.Meaning as store
 use Rattle.cache.specs.Contents.{Blocks, Contents}
 use Rattle.cache.specs.Stripes.{stripe_of_block, in_stripe, is_number, HasStripe, Lowest, Listed, by_position, looked_up, stripe_freed}
 use Rattle.cache.proofs.Places.{none≢some, some_injective}
-use Rattle.array_model.specs.Meaning.{Meaning, named, Geometry, stripe_count, stripe, block_count, home, position}
+use Rattle.array_model.specs.Meaning.{Meaning, named, Geometry, stripe_count, block_count, home, position}
 use Rattle.array_model.specs.Checks.{all_named}
 
 -- what a layout within the limits gives

@@ -1,25 +1,22 @@
 -- The crash promise follows from what is known. Assumes nothing.
-use Rattle.std.proofs.Common.{◌≡◌, ℕ, ◌<◌, Bool, true, false, cond, ◌⊎◌, List, [], ◌∷◌, length, Some, None, Ok, Err, Option, Result, sym, refl, ap, ◌∙◌, subst, inl, inr}
+use Rattle.std.proofs.Common.{◌≡◌, ℕ, Bool, true, false, cond, List, [], ◌∷◌, length, Some, None, Ok, Err, Option, Result, sym, refl, ap, ◌∙◌, subst, inl, inr}
 use Rattle.std.specs.Option as options
 use Rattle.std.specs.Option.{option_or}
 use Rattle.std.specs.Result as results
 use Rattle.geometry.specs.Counts.{counts_allowed}
 use Rattle.member_store.specs.Meaning as store
 use Rattle.device_calls.specs.Lists.{barrier, Completed}
-use Rattle.cache.specs.Contents.{Contents, empty, newest}
-use Rattle.stripe_work.specs.Stripe.{data_at}
+use Rattle.cache.specs.Contents.{empty, newest}
 use Rattle.stripe_work.specs.Work.{or_else}
-use Rattle.array_model.specs.Refusals.{refused_with}
-use Rattle.array_model.specs.Meaning.{Meaning, array, in_state, with_members, Arrange, LawfulLayout, Geometry, geometry, stripe, block_count, home, position, held}
-use Rattle.array_model.specs.Work.{devices, clear, Performs, Declines}
+use Rattle.array_model.specs.Meaning.{Meaning, in_state, Geometry, home, position, held}
+use Rattle.array_model.specs.Work.{clear, Performs, Declines}
 use Rattle.array_model.specs.Checks.{limits_check, block_checks}
-use Rattle.array_model.specs.Calls.{Plain, Checked, format_actions, Formats, NextDue, totals, finish_actions, FinishesFrom, Finishes, Fetches, read_calls, ReadsNewest, Reads, FlushesReady, Flushes, ClosesReady, Closes, ReadsShort}
+use Rattle.array_model.specs.Calls.{Plain, Checked, format_actions, Formats, NextDue, totals, finish_actions, FinishesFrom, Finishes, Fetches, read_calls, ReadsNewest, Reads, FlushesReady, Flushes, ClosesReady, Closes}
 use Rattle.array_model.specs.Book.{Book, InBook, latest, holding, settled, zero_book, Since}
-use Rattle.array_model.specs.Runs.{Run, StandIn}
-use Rattle.array_model.specs.Promise.{Consistent, HeldByBook, ShortRead, OnlyBase, HoldsAt, CrashPromise}
+use Rattle.array_model.specs.Promise.{Consistent, HeldByBook, OnlyBase, HoldsAt, CrashPromise}
 use Rattle.array_model.specs.declared.state.Progress.{Progress}
 use Rattle.array_model.specs.declared.state.State.{State}
-use Rattle.array_model.specs.declared.state.State.TheVariants.{Fallen, Down, Ready, Short}
+use Rattle.array_model.specs.declared.state.State.TheVariants.{Fallen, Down, Ready}
 use Rattle.array_model.specs.declared.answer.ResyncCounts.{ResyncCounts}
 use Rattle.array_model.specs.declared.answer.FlushCounts.{FlushCounts}
 use Rattle.array_model.specs.declared.refusal.ArrayRefusal.{ArrayRefusal}
@@ -29,9 +26,9 @@ use Rattle.array_model.proofs.Inv.{Known, Calm, InResyncing, InReadiness, InvIn,
 use Rattle.array_model.proofs.Cases.{ok≢err, in_down, in_resync, in_ready, block_passed}
 use Rattle.array_model.proofs.Resyncing.{finish_consistent, finish_by_book, finish_known}
 use Rattle.array_model.proofs.Opening.{format_parts, zeroed_known}
-use Rattle.array_model.proofs.Flushing.{StillReady, flushes, flush_of}
+use Rattle.array_model.proofs.Flushing.{flushes, flush_of}
 use Rattle.array_model.proofs.Shorts.{short_read}
-use Rattle.array_model.proofs.Kept.{KnownSoFar, geo, same_geometry, so_far}
+use Rattle.array_model.proofs.Kept.{geo, same_geometry, so_far}
 
 -- with empty lists, what is by the book is the base
 only_base : (g : Geometry) (f : Facts g) (base : ℕ → List ℕ) (m : store.Meaning) → Known g (holding base) m → OnlyBase g (holding base) m

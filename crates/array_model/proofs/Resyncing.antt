@@ -1,35 +1,31 @@
 -- Steps and finish keep what is known of an array being resynchronized. Assumes nothing.
-use Rattle.std.proofs.Common.{◌≡◌, ℕ, zero, suc, ◌+◌, ◌<◌, ◌≤◌, Bool, true, false, cond, not, ◌&&◌, ltb, ◌⊎◌, List, [], ◌∷◌, length, Some, None, Ok, Err, Option, sym, refl, ap, ◌∙◌, subst, inl, inr, add-one, arith}
+use Rattle.std.proofs.Common.{◌≡◌, ℕ, zero, suc, ◌+◌, ◌<◌, ◌≤◌, Bool, true, false, not, ltb, List, [], ◌∷◌, length, Some, None, Ok, Option, sym, refl, ap, ◌∙◌, subst, inl, inr, add-one, arith}
 use native.Mathlib.Decide.{ℕ_discrete, dec_lt}
 use Rattle.std.proofs.lemmas.Bool.{true≢false, ltb-true, lt-ltb, and_parts, and_cases}
-use Rattle.parity.specs.Xor.{parity_of}
 use Rattle.member_store.specs.Meaning as store
 use Rattle.member_store.specs.Meaning.{current, Version, In}
 use Rattle.member_store.specs.declared.refusal.Refusal.{Refusal}
 use Rattle.device_calls.specs.Lists.{barrier, Completed, Stopped}
 use Rattle.intent_log.specs.Meaning as intent
 use Rattle.intent_log.specs.Meaning.{Standing, MayStand}
-use Rattle.intent_log.specs.Calls as log
-use Rattle.cache.specs.Contents.{Contents, one_if}
+use Rattle.cache.specs.Contents.{one_if}
 use Rattle.cache.specs.Stripes.{count_below}
 use Rattle.cache.proofs.Places.{none≢some}
-use Rattle.stripe_work.specs.Stripe.{Stripe, data_at, RightParity, parity_right}
+use Rattle.stripe_work.specs.Stripe.{Stripe, data_at, RightParity}
 use Rattle.stripe_work.specs.Work.{or_else, resync_calls}
 use Rattle.stripe_work.specs.Outcomes as outcome
-use Rattle.stripe_work.proofs.Parts.{Distinct, distinct}
+use Rattle.stripe_work.proofs.Parts.{distinct}
 use Rattle.stripe_work.proofs.Resyncing as lower
-use Rattle.array_model.specs.Meaning.{Meaning, array, named, Geometry, stripe_count, stripe, block_count, home, position, held}
-use Rattle.array_model.specs.Work.{Action, devices, clear, AllAccepted, FirstRefused}
-use Rattle.array_model.specs.Calls.{due, NextDue, taken, totals, finish_actions}
+use Rattle.array_model.specs.Meaning.{Meaning, array, named, Geometry, stripe_count, stripe, home, position, held}
+use Rattle.array_model.specs.Calls.{due, NextDue, taken, totals}
 use Rattle.array_model.specs.Book.{Book, InBook, holding, Since, told}
 use Rattle.array_model.specs.Promise.{Consistent, HeldByBook}
 use Rattle.array_model.specs.declared.state.Progress.{Progress}
 use Rattle.array_model.specs.declared.state.State.TheVariants.{Resync, Ready}
 use Rattle.array_model.specs.declared.answer.Step.TheVariants.{Taken}
-use Rattle.array_model.specs.declared.refusal.ArrayRefusal.{ArrayRefusal}
 use Rattle.array_model.proofs.Places.{Facts, width, number, num_home, num_position, num_back, home_below, position_below'}
-use Rattle.array_model.proofs.Inv.{On, has, Each, Grows, Sized, stands, member_below, parity_below, Known, BookSized, Crash, Sure, Calm, InResyncing, InReadiness, clean_right, crash_grows, crash_within, crash_log, clean_crash}
-use Rattle.array_model.proofs.Effects.{Mends, resync_stores, completed_grows, stopped_grows, stopped_on, completed_has, parity_sized, barrier_current, barrier_only, barrier_sized, barrier_cut, log_refused}
+use Rattle.array_model.proofs.Inv.{On, has, Grows, Sized, stands, member_below, Known, BookSized, Crash, Sure, Calm, InResyncing, InReadiness, clean_right, crash_grows, clean_crash}
+use Rattle.array_model.proofs.Effects.{Mends, resync_stores, completed_grows, stopped_grows, stopped_on, completed_has, parity_sized, barrier_current, barrier_only, barrier_sized}
 use Rattle.array_model.proofs.Barriers.{right_same, bar_known, bar_whole, bar_clean, bar_right, bar_crash}
 
 -- counting

@@ -1,16 +1,14 @@
 -- Reads without one member: what they keep, and what they answer. Assumes nothing.
-use Rattle.std.proofs.Common.{◌≡◌, ℕ, ◌<◌, Bool, true, false, cond, ◌&&◌, eqb, ltb, ◌⊎◌, List, [], ◌∷◌, length, Some, None, Ok, Err, Option, Result, sym, refl, ap, ◌∙◌, subst, inl, inr}
-use Rattle.std.proofs.lemmas.Bool.{true≢false, false≢true, lt-ltb, eq-eqb, ne_eqb, eqb-true, eqb-false, and_parts, and_cases, and_from}
+use Rattle.std.proofs.Common.{◌≡◌, ℕ, ◌<◌, Bool, true, false, cond, ◌&&◌, eqb, List, [], ◌∷◌, length, Some, None, Ok, Err, Option, sym, refl, ap, ◌∙◌, subst, inl, inr}
+use Rattle.std.proofs.lemmas.Bool.{true≢false, false≢true, lt-ltb, eq-eqb, eqb-true, eqb-false, and_parts, and_cases, and_from}
 use Rattle.std.specs.Option as options
 use Rattle.std.specs.Option.{option_or}
 use Rattle.member_store.specs.Meaning as store
 use Rattle.member_store.specs.Meaning.{current, Version, In, last_or}
-use Rattle.device_calls.specs.Lists.{DeviceCall, read, Stopped}
+use Rattle.device_calls.specs.Lists.{DeviceCall, read}
 use Rattle.device_calls.specs.Effects.{Every, Reading, InRange}
 use Rattle.device_calls.proofs.Properties.{every_for_each}
 use Rattle.device_calls.proofs.Left.{completed_reading, cut_short}
-use Rattle.intent_log.specs.Meaning as intent
-use Rattle.stripe_work.specs.Stripe.{stripe_at, RightParity}
 use Rattle.stripe_work.specs.Work.{other_reads, reconstructed}
 use Rattle.stripe_work.proofs.Recovering.{recovers}
 use Rattle.array_model.specs.Refusals.{number, refused_with}
@@ -22,11 +20,11 @@ use Rattle.array_model.specs.Book.{Book, InBook, Since}
 use Rattle.array_model.specs.Runs.{StandIn, restored}
 use Rattle.array_model.specs.Promise.{ShortRead}
 use Rattle.array_model.specs.declared.state.State.{State}
-use Rattle.array_model.specs.declared.state.State.TheVariants.{Fallen, Short}
+use Rattle.array_model.specs.declared.state.State.TheVariants.{Short}
 use Rattle.array_model.specs.declared.refusal.ArrayRefusal.{ArrayRefusal}
-use Rattle.array_model.specs.declared.refusal.ArrayRefusal.TheVariants.{Members, WrongState, NoBlock, WrongLength, StripeNamed}
-use Rattle.array_model.proofs.Places.{Facts, width, number as number_at, num_back, home_below, position_below'}
-use Rattle.array_model.proofs.Inv.{On, has, on_then, Each, Sized, stands, member_below, Crash, Calm, InvIn, Inv, inv_crash, clean_right, crash_within}
+use Rattle.array_model.specs.declared.refusal.ArrayRefusal.TheVariants.{WrongState, NoBlock, WrongLength, StripeNamed}
+use Rattle.array_model.proofs.Places.{Facts, num_back, home_below, position_below'}
+use Rattle.array_model.proofs.Inv.{On, has, on_then, stands, member_below, Crash, Calm, InvIn, Inv, clean_right, crash_within}
 use Rattle.array_model.proofs.Effects.{Storing, reading_cut, stopped_on, off_one}
 use Rattle.array_model.proofs.Barriers.{accepted_devices, refused_devices}
 use Rattle.array_model.proofs.Writing.{fetched}

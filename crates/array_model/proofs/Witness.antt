@@ -1,5 +1,5 @@
 -- A run of format, open, finish, write and close, over any layout and counts within the limits. Assumes nothing.
-use Rattle.std.proofs.Common.{◌≡◌, ℕ, zero, suc, ◌+◌, ◌-◌, ◌<◌, ◌≤◌, Bool, true, false, cond, ◌&&◌, eqb, ltb, leb, ◌⊎◌, List, [], ◌∷◌, ◌++◌, length, get_or, is_some, Some, None, Ok, Err, Option, Result, sym, refl, ap, ◌∙◌, subst, inl, inr, zero-le, arith}
+use Rattle.std.proofs.Common.{◌≡◌, ℕ, zero, suc, ◌<◌, Bool, true, false, cond, ◌&&◌, eqb, ltb, leb, List, [], ◌∷◌, ◌++◌, length, get_or, is_some, Some, None, Ok, Option, sym, refl, ap, ◌∙◌, subst, inl, inr, zero-le, arith}
 use Rattle.std.proofs.lemmas.Bool.{true≢false, false≢true, lt-ltb, eq-eqb, eqb-true, le-leb, leb-true, and_parts, and_from, and_right}
 use Rattle.std.specs.Option.{option_map, option_or}
 use Rattle.geometry.specs.Counts.{counts_allowed, members_allowed}
@@ -8,37 +8,33 @@ use Rattle.geometry.specs.declared.place.Location.{Location}
 use Rattle.parity.specs.Xor.{zeros, parity_of}
 use Rattle.member_store.specs.Meaning as store
 use Rattle.member_store.specs.Meaning.{In}
-use Rattle.device_calls.specs.Lists.{DeviceCall, barrier, Completed}
+use Rattle.device_calls.specs.Lists.{DeviceCall, barrier}
 use Rattle.device_calls.specs.Effects.{Every, InRange}
 use Rattle.device_calls.proofs.Properties.{every_then}
-use Rattle.intent_log.specs.Meaning as intent
 use Rattle.intent_log.specs.Meaning.{listed}
 use Rattle.intent_log.specs.Calls as log
 use Rattle.intent_log.specs.declared.refusal.LogRefusal.TheVariants.{WrongList}
-use Rattle.stripe_set.specs.Rising.{rising}
 use Rattle.cache.specs.Contents.{Blocks, Contents, empty, no_blocks, put_into, exchanged}
 use Rattle.cache.specs.Stripes.{stripe_of_block, HasStripe, Lowest, Listed, by_position, in_stripe, is_number, stripe_freed}
 use Rattle.stripe_work.specs.Stripe.{Stripe}
 use Rattle.stripe_work.specs.Work.{CachedBlocks, data_reads, data_stores, parity_store, merged_data, destage_calls}
 use Rattle.stripe_work.proofs.Parts.{reads_every, stores_every}
-use Rattle.array_model.specs.Meaning.{Meaning, array, in_state, with_caches, Arrange, LawfulLayout, Geometry, geometry, stripe_count, stripe, block_count, home, position, held}
-use Rattle.array_model.specs.Work.{devices, clear, Performs}
-use Rattle.array_model.specs.Checks.{limits_check, open_checks, block_checks, write_checks}
-use Rattle.array_model.specs.Calls.{Plain, Checked, zero_calls, format_actions, Formats, begun, Opens, totals, Finishes, Writes, Destages, Drains, begin, then_moved, then_changed, Flushes, Closes}
-use Rattle.array_model.specs.Book.{Book, InBook, latest, newest_of, holding, add, settled, Since, since, booked, open_whole, finish, write, close}
+use Rattle.array_model.specs.Meaning.{Meaning, array, in_state, with_caches, Arrange, LawfulLayout, Geometry, geometry, stripe, block_count, home, position, held}
+use Rattle.array_model.specs.Work.{Performs}
+use Rattle.array_model.specs.Calls.{Plain, Checked, zero_calls, format_actions, Formats, begun, Opens, totals, Finishes, Writes, Destages, begin, then_moved, then_changed, Flushes, Closes}
+use Rattle.array_model.specs.Book.{Book, InBook, newest_of, holding, add, settled, Since, open_whole, finish, write, close}
 use Rattle.array_model.specs.Runs.{Run, formatted, next}
 use Rattle.array_model.specs.Witness.{WrittenAndClosed, RunsExist}
 use Rattle.array_model.specs.declared.state.State.{State}
 use Rattle.array_model.specs.declared.state.State.TheVariants.{Down, Resync, Ready}
 use Rattle.array_model.specs.declared.answer.Destage.TheVariants.{Moved, Changed, Idle}
-use Rattle.array_model.specs.declared.answer.FlushCounts.{FlushCounts}
 use Rattle.array_model.specs.declared.refusal.ArrayRefusal.{ArrayRefusal}
 use Rattle.array_model.specs.declared.refusal.ArrayRefusal.TheVariants.{Limits, NoBlock, WrongLength}
-use Rattle.array_model.proofs.Places.{Facts, width, in_array, num_back, home_below, position_below'}
+use Rattle.array_model.proofs.Places.{Facts, in_array, num_back, home_below, position_below'}
 use Rattle.array_model.proofs.Inv.{InvIn, stands, member_below, parity_below}
 use Rattle.array_model.proofs.Effects.{zero_range}
 use Rattle.array_model.proofs.Cases.{allowed_low}
-use Rattle.array_model.proofs.Kept.{KnownSoFar, geo, same_geometry, so_far}
+use Rattle.array_model.proofs.Kept.{geo, same_geometry, so_far}
 use Rattle.array_model.proofs.Working.{Versions, Filled, store_of, performed, performed_filled, can_perform, log_of, can_log}
 
 -- in an array that is down every block is by the book

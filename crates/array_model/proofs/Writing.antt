@@ -1,24 +1,21 @@
 -- Writes and reads keep what is known. Assumes nothing.
-use Rattle.std.proofs.Common.{◌≡◌, ℕ, ◌<◌, Bool, true, false, cond, eqb, ◌⊎◌, List, [], ◌∷◌, length, Some, None, Ok, Err, Option, Result, sym, refl, ap, ◌∙◌, subst, inl, inr}
+use Rattle.std.proofs.Common.{◌≡◌, ℕ, ◌<◌, Bool, true, false, cond, eqb, ◌⊎◌, List, [], ◌∷◌, length, Some, None, Ok, Err, Option, sym, refl, ap, ◌∙◌, subst, inl, inr}
 use Rattle.std.specs.Option as options
-use Rattle.std.specs.Option.{option_or}
 use Rattle.member_store.specs.Meaning as store
 use Rattle.member_store.specs.Meaning.{In}
-use Rattle.device_calls.specs.Lists.{DeviceCall, Completed, Stopped}
+use Rattle.device_calls.specs.Lists.{DeviceCall}
 use Rattle.device_calls.specs.Effects.{Every, Reading}
 use Rattle.device_calls.proofs.Left.{completed_reading}
 use Rattle.intent_log.specs.Meaning as intent
-use Rattle.cache.specs.Contents.{Contents, put_into, newest, no_slot_for}
-use Rattle.cache.proofs.Places.{none≢some, some_injective}
-use Rattle.stripe_work.specs.Stripe.{data_at}
+use Rattle.cache.specs.Contents.{put_into, newest, no_slot_for}
+use Rattle.cache.proofs.Places.{some_injective}
 use Rattle.stripe_work.specs.Work.{or_else}
-use Rattle.array_model.specs.Meaning.{Meaning, array, with_caches, Geometry, stripe_count, stripe, held}
+use Rattle.array_model.specs.Meaning.{Meaning, array, with_caches, Geometry, stripe_count, held}
 use Rattle.array_model.specs.Work.{devices, Performs, Declines}
 use Rattle.array_model.specs.Checks.{block_checks, write_checks}
 use Rattle.array_model.specs.Calls.{Plain, Checked, Writes, Fetches, read_calls, ReadsNewest, Reads}
-use Rattle.array_model.specs.Book.{Book, InBook, newest_of, latest, add, Since, booked, write}
+use Rattle.array_model.specs.Book.{Book, InBook, newest_of, add, Since, booked, write}
 use Rattle.array_model.specs.declared.state.State.{State}
-use Rattle.array_model.specs.declared.state.State.TheVariants.{Fallen, Ready}
 use Rattle.array_model.specs.declared.refusal.ArrayRefusal.{ArrayRefusal}
 use Rattle.array_model.specs.declared.refusal.ArrayRefusal.TheVariants.{WrongState, NoSlot}
 use Rattle.array_model.proofs.Places.{Facts, width, number}

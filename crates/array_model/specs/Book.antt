@@ -1,6 +1,6 @@
 -- The book of accepted writes, fed with calls, their answers and, at a finish, what the blocks hold; and what is known
 -- since the latest accepted open.
-use Rattle.std.specs.Prelude.{◌≡◌, ℕ, Bool, true, false, cond, ◌⊎◌, List, [], ◌∷◌, is_ok, Ok, Err, Result, ◌==◌}
+use Rattle.std.specs.Prelude.{◌≡◌, ℕ, Bool, cond, ◌⊎◌, List, [], ◌∷◌, is_ok, Ok, Err, Result, ◌==◌}
 use Rattle.parity.specs.Xor.{zeros}
 use Rattle.member_store.specs.Meaning as store
 use Rattle.array_model.specs.Refusals.{refused_with}

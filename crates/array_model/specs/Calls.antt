@@ -1,22 +1,21 @@
 -- What each call of the array does, by its state: a relation between what the array meant before (s), the answer (r)
 -- and what it means after (t). The device calls and the changes of the log stand in their order, and power may go in
 -- each of them.
-use Rattle.std.specs.Prelude.{◌≡◌, ℕ, ◌+◌, Bool, true, false, cond, not, ◌&&◌, ◌⊎◌, List, [], ◌∷◌, ◌++◌, length, Some, None, Ok, Err, Option, Result, ◌==◌, nat_lt}
+use Rattle.std.specs.Prelude.{◌≡◌, ℕ, ◌+◌, Bool, cond, not, ◌&&◌, ◌⊎◌, List, [], ◌∷◌, ◌++◌, length, Ok, Err, Option, Result, ◌==◌, nat_lt}
 use Rattle.std.specs.Option as options
 use Rattle.std.specs.Result as results
 use Rattle.parity.specs.Xor.{zeros}
-use Rattle.member_store.specs.Meaning.{current}
 use Rattle.member_store.specs.Calls.{PoweredOn}
 use Rattle.device_calls.specs.Lists.{DeviceCall, read, store, barrier, for_each}
 use Rattle.stripe_set.specs.Named.{LeastFrom}
 use Rattle.intent_log.specs.Calls as intent
 use Rattle.intent_log.specs.declared.refusal.LogRefusal.{LogRefusal}
-use Rattle.cache.specs.Contents.{Contents, empty, put_into, newest, exchanged}
+use Rattle.cache.specs.Contents.{empty, put_into, newest, exchanged}
 use Rattle.cache.specs.Stripes.{Lowest, Listed, by_position, stripe_freed}
 use Rattle.stripe_work.specs.Stripe.{parity_right}
 use Rattle.stripe_work.specs.Work.{destage_calls, resync_calls, other_reads, reconstructed}
 use Rattle.array_model.specs.Meaning.{Meaning, array, in_state, with_caches, named, Geometry, stripe_count, stripe, home, holder, held}
-use Rattle.array_model.specs.Work.{Action, devices, mark, fresh, clear, blank, AllAccepted, FirstRefused, Performs, Declines}
+use Rattle.array_model.specs.Work.{Action, devices, mark, fresh, clear, blank, Performs, Declines}
 use Rattle.array_model.specs.Checks.{limits_check, open_checks, open_short_checks, block_checks, write_checks, read_short_checks, all_named, naming_check}
 use Rattle.array_model.specs.declared.state.Progress.{Progress}
 use Rattle.array_model.specs.declared.state.State.{State}

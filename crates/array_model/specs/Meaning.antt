@@ -1,5 +1,5 @@
 -- What an array means: its state, its caches, its members and its log; and where its blocks lie.
-use Rattle.std.specs.Prelude.{◌≡◌, ℕ, ◌≤◌, Bool, true, List}
+use Rattle.std.specs.Prelude.{ℕ, ◌≤◌, Bool, List}
 use Rattle.geometry.specs.Layouts.{Arrangement, Lawful}
 use Rattle.geometry.specs.Places.{stripe_of, position_of, stripes, data_blocks}
 use Rattle.member_store.specs.Meaning as store

@@ -1,5 +1,5 @@
 -- The crash promise: what holds along every run, of every layout, member store and log, wherever power goes.
-use Rattle.std.specs.Prelude.{◌≡◌, ℕ, ◌<◌, Bool, true, false, ◌↔◌, List, length, is_ok, Ok}
+use Rattle.std.specs.Prelude.{◌≡◌, ℕ, ◌<◌, true, false, ◌↔◌, List, length, Ok}
 use Rattle.member_store.specs.Meaning as store
 use Rattle.cache.specs.Stripes.{count_below}
 use Rattle.stripe_work.specs.Stripe.{RightParity}

@@ -1,13 +1,12 @@
 -- Runs: any list of calls, the first on an array just formatted, each later one on what the call before it left, with
 -- any answer that the calls allow, refusals and power cuts included.
-use Rattle.std.specs.Prelude.{◌≡◌, ℕ, Bool, true, false, cond, List, [], ◌∷◌, Ok, Err, Result, ◌==◌, ◌≢◌}
+use Rattle.std.specs.Prelude.{◌≡◌, ℕ, cond, List, Ok, ◌==◌, ◌≢◌}
 use Rattle.member_store.specs.Meaning as store
 use Rattle.member_store.specs.Calls.{SameCounts}
 use Rattle.cache.specs.Contents.{empty}
 use Rattle.array_model.specs.Meaning.{Meaning, Arrange, Geometry, geometry, with_members}
 use Rattle.array_model.specs.Calls.{Plain, PowersOn, Formats, Opens, OpensShort, Steps, Finishes, Writes, Reads, Destages, Flushes, Closes, ReadsShort, GivesUp}
 use Rattle.array_model.specs.Book.{Call, power_on, format, open_whole, step, finish, destage, flush, close, give_up, open_short, write, read_block, read_short, Reply, Book, zero_book, booked, Since, since}
-use Rattle.array_model.specs.declared.state.State.{State}
 use Rattle.array_model.specs.declared.state.State.TheVariants.{Short}
 
 abbrev pub Does : Geometry → (c : Call) → Meaning → Reply c → Meaning → Type 0

@@ -1,5 +1,5 @@
 -- What an array does to its members and its log: a list of actions in their order, performed up to the first refusal.
-use Rattle.std.specs.Prelude.{◌≡◌, ℕ, ◌⊎◌, List, [], ◌∷◌, ◌++◌, Ok, Err, Result}
+use Rattle.std.specs.Prelude.{◌≡◌, ℕ, ◌⊎◌, List, [], ◌∷◌, Ok, Err, Result}
 use Rattle.std.specs.Result as results
 use Rattle.member_store.specs.Meaning as store
 use Rattle.member_store.specs.declared.refusal.Refusal.{Refusal}

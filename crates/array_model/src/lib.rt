@@ -1,5 +1,7 @@
 //! The model of the array: its states, refusals and answers, what each call does to what an array means, the book of
 //! accepted writes, runs over any list of calls, and the crash promise.
+#![tactic(auto)]
+
 ghost use Rattle.std.specs.Prelude.{◌≡◌};
 ghost use Rattle.array_model.specs.Promise.{CrashPromise};
 ghost use Rattle.array_model.specs.Witness.{RunsExist};

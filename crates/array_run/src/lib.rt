@@ -1,4 +1,6 @@
 //! Lists of calls of an array, and the crash promise over them.
+#![tactic(auto)]
+
 ghost use Rattle.array_run.specs.Trace.{CachesStayEmpty};
 
 pub mod answer;

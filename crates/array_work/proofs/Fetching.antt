@@ -10,7 +10,7 @@ use Rattle.device_calls.proofs.Single.{read_performs}
 use Rattle.intent_log.specs.Meaning as intent
 use Rattle.cache.specs.Contents.{Contents, newest}
 use Rattle.stripe_work.specs.Work.{other_reads, reconstructed}
-use Rattle.array_model.specs.Meaning.{Meaning, Geometry, array, stripe, home, holder, held}
+use Rattle.array_model.specs.Meaning.{Geometry, array, stripe, home, holder, held}
 use Rattle.array_model.specs.Work.{Action, devices, mark, fresh, clear, blank, FirstRefused}
 use Rattle.array_model.specs.Calls.{Fetches, read_calls, ReadsNewest, ReadsWithout}
 use Rattle.array_model.specs.declared.state.State.{State}

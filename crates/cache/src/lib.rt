@@ -2,6 +2,8 @@
 //!
 //! 32 slots stand inline in one value, shared by the buffering cache, which takes the writes, and the destaging cache,
 //! whose stripes are moved to the members one by one.
+#![tactic(auto)]
+
 pub mod caches;
 mod calls;
 mod change;

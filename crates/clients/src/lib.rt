@@ -1,4 +1,6 @@
 //! Two clients of an array, as they have to be written. What the check refuses of their wrong twins is kept in misuse/.
+#![tactic(auto)]
+
 ghost use Rattle.array.specs.Sound.{Sound};
 
 use array::array::Array;

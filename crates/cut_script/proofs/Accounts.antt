@@ -1,8 +1,8 @@
 -- The account of the script, call by call.
-use Rattle.std.proofs.Common.{◌≡◌, ℕ, ◌+◌, ◌<◌, ◌≤◌, ◌⊎◌, List, length, Err, Result, sym, refl, ap, ◌∙◌, subst, inl, inr, ⊎_elim, arith}
+use Rattle.std.proofs.Common.{◌≡◌, ℕ, ◌+◌, ◌<◌, ◌≤◌, ◌⊎◌, List, length, Err, sym, refl, ap, ◌∙◌, subst, inl, inr, ⊎_elim, arith}
 use Rattle.std.proofs.lemmas.Bool.{cases_eq}
 use Rattle.member_store.specs.Meaning.{Meaning, Version, current, HasBlock}
-use Rattle.member_store.specs.Calls.{SameCounts, Cut, CutStore, Stored, Barred, Stores, Bars, checks, barrier_checks}
+use Rattle.member_store.specs.Calls.{SameCounts, Stored, Barred, Stores, Bars, checks, barrier_checks}
 use Rattle.member_store.specs.declared.refusal.Refusal.{Refusal}
 use Rattle.member_store.specs.declared.refusal.Place.{Place}
 use Rattle.member_store.proofs.Refusals.{refused_cases}

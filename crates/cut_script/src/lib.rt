@@ -1,4 +1,6 @@
 // The script: 24 stores with two barriers among them, and what is known of it after a cut.
+#![tactic(auto)]
+
 ghost use Rattle.std.specs.Prelude.{◌≡◌, ◌≤◌, IfOk};
 ghost use Rattle.cut_script.specs.Account.{Accounted, FirstBytes};
 ghost use Rattle.cut_script.specs.Script.{place as place_of, barrier_after, LastStore};
@@ -29,8 +31,8 @@ pub struct Progress {
     /// The stores before the last barrier that was not refused.
     pub barred: u8,
     pub refusal: Option<Refusal>,
-    ghost within: { IfOk ≤ 24 },
-    ghost before: { barred ≤ IfOk },
+    ghost within: { made ≤ 24 },
+    ghost before: { barred ≤ made },
 }
 
 /// The block of a store: triangular numbers, which come to a block again after few or many stores.

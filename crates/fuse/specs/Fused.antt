@@ -1,11 +1,9 @@
 -- What a fuse over a store means, and what it says of its own calls: a valid store or barrier uses up one of the
 -- setting, or, where none is left, loses power and is not passed below; all else is what the store below does.
 -- A fuse is spoken of by its parts: what is left of the setting, whether it has blown, and the store below.
-use Rattle.std.specs.Prelude.{◌≡◌, ℕ, ◌-◌, Bool, true, false, cond, List, length, Some, None, Err, MatchBool, Option, Result, ◌==◌}
+use Rattle.std.specs.Prelude.{◌≡◌, ℕ, ◌-◌, Bool, true, false, cond, Some, None, Err, MatchBool, Option, Result, ◌==◌}
 use Rattle.std.specs.Option as options
 use Rattle.member_store.specs.Meaning.{Meaning}
-use Rattle.member_store.specs.Refusals.{off_at, off_at_barrier}
-use Rattle.member_store.specs.Calls.{checks, barrier_checks, Reads, Stores, Bars, PoweredOn}
 use Rattle.member_store.specs.declared.refusal.Refusal.{Refusal}
 
 -- The store below, without power where the fuse has blown.

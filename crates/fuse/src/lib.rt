@@ -1,4 +1,6 @@
 // The fuse: over any member store, loses power after a set number of stores and barriers.
+#![tactic(auto)]
+
 ghost use Rattle.std.specs.Prelude.{◌≡◌, true, false, length, if◌then◌else◌, None as Unset, MatchBool};
 ghost use Rattle.member_store.specs.Refusals.{off_at, off_at_barrier};
 ghost use Rattle.member_store.specs.Calls.{checks, barrier_checks, Reads, Stores, Bars, PoweredOn};

@@ -1,4 +1,6 @@
 // A fuse that each power-on sets again, from a series of settings: a script can so cut power many times.
+#![tactic(auto)]
+
 ghost use Rattle.std.specs.Prelude.{◌≡◌, false, length, None as Unset};
 ghost use Rattle.member_store.specs.Refusals.{off_at, off_at_barrier};
 ghost use Rattle.member_store.specs.Calls.{checks, barrier_checks, Reads, Stores, Bars, PoweredOn};

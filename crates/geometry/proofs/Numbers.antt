@@ -1,13 +1,12 @@
 -- The conversions undo each other. Assumes nothing.
-use Rattle.std.proofs.Common.{◌≡◌, ℕ, ◌+◌, ◌-◌, ◌*◌, ◌/◌, ◌%◌, ◌<◌, ◌≤◌, true, false, cond, eqb, ltb, ◌⊎◌, Some, None, sym, refl, ap, ◌∙◌, inl, inr, ⊎_elim, mul-le-mul_right, mul_comm, arith}
-use Rattle.std.proofs.lemmas.Bool.{lt-ltb, eq-eqb, ne_eqb, eqb-true, eqb-false, cases_Bool}
-use Rattle.std.proofs.lemmas.Nat.{div-mul-add, mod-mul-add, div_below, mod_below, div-add-mod', mul-le}
+use Rattle.std.proofs.Common.{◌≡◌, ℕ, ◌+◌, ◌-◌, ◌*◌, ◌/◌, ◌%◌, ◌<◌, ◌≤◌, false, eqb, Some, ap, ◌∙◌, ⊎_elim, mul-le-mul_right, mul_comm, arith}
+use Rattle.std.proofs.lemmas.Bool.{lt-ltb, eqb-false, cases_Bool}
+use Rattle.std.proofs.lemmas.Nat.{div-mul-add, mod-mul-add, div_below, mod_below, div-add-mod'}
 use Rattle.geometry.specs.Layouts.{Arrangement, Lawful, position_at}
-use Rattle.geometry.specs.Places.{stripe_of, position_of, block_number, data_blocks, located, numbered, position_address, parity_address, data_address, content_at, member_content, address_of}
+use Rattle.geometry.specs.Places.{stripe_of, position_of, block_number, data_blocks, located, numbered, data_address, content_at}
 use Rattle.geometry.specs.declared.place.Location.{Location}
 use Rattle.geometry.specs.declared.place.Address.{Address}
-use Rattle.geometry.specs.declared.place.Content.{Content}
-use Rattle.geometry.specs.declared.place.Content.TheVariants.{Data, Parity}
+use Rattle.geometry.specs.declared.place.Content.TheVariants.{Data}
 
 module _ (m n : ℕ) (h : 3 ≤ m) where
   -- a block of the data lies in a stripe of the array, at one of its positions

@@ -1,5 +1,5 @@
 -- The counts of an array, and their limits. Assumes nothing.
-use Rattle.std.specs.Prelude.{ℕ, ◌-◌, ◌*◌, Bool, ◌&&◌, nat_le}
+use Rattle.std.specs.Prelude.{ℕ, Bool, ◌&&◌, nat_le}
 use Rattle.geometry.specs.declared.shape.MemberCount.{MemberCount}
 use Rattle.geometry.specs.declared.shape.Shape.{Shape}
 

@@ -1,4 +1,6 @@
 // Member stores: the interface, what its calls mean, and why they are refused.
+#![tactic(auto)]
+
 ghost use Rattle.std.specs.Prelude.{◌≡◌, ℕ, ◌≤◌, List, length, Result as Answer};
 ghost use Rattle.member_store.specs.declared.refusal.Refusal.{Refusal as Cause};
 ghost use Rattle.member_store.specs.Meaning.{Meaning, current, Version, HasBlock};

@@ -1,4 +1,6 @@
 // The memory store: a member store over bytes that the caller gives, which never loses power.
+#![tactic(auto)]
+
 ghost use Rattle.std.specs.Prelude.{◌≡◌, ◌+◌, ◌<◌, ◌≤◌, length, vec_len, MatchOption, MatchResult};
 ghost use Rattle.std.proofs.Common.{ap, ◌∙◌, length-take, length-drop, ⊎_elim, arith, rules};
 ghost use Rattle.member_store.specs.Meaning.{HasBlock, current};

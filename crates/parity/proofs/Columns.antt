@@ -1,7 +1,6 @@
 -- A part of a parity is the parity of the parts. Assumes nothing.
 use Rattle.std.proofs.Common.{◌≡◌, ℕ, zero, suc, ◌+◌, ◌-◌, ◌<◌, ◌≤◌, List, [], ◌∷◌, ◌++◌, length, get_or, take, drop, replicate, sym, refl, ap, ◌∙◌, arith, take-add}
 use lib.Bits.{bit_xor}
-use lib.Seq.{take-nil, drop-nil}
 use lib.Lanes.{zip2, fold_l, chunk, put_chunk}
 use Rattle.std.proofs.lemmas.List.{at_drop_more, drop-replicate, take-replicate}
 use Rattle.std.proofs.lemmas.Simd.{take_more_put_chunk}

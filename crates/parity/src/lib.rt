@@ -1,4 +1,6 @@
 //! Parity of blocks, and one block of a stripe out of all the others.
+#![tactic(auto)]
+
 ghost use Rattle.std.specs.Prelude.{◌≡◌, ℕ, ◌+◌, ◌*◌, ◌<◌, ◌≤◌, length, replicate};
 ghost use Rattle.std.specs.Simd.Lanes.{fold_l, chunk};
 ghost use Rattle.parity.specs.Xor.{xored, parity_of};
@@ -90,10 +92,9 @@ pub fn missing_block(others: &[[u8; 512]], into: &mut [u8]) -> Result<(), Refusa
     checked_sum(others, into)
 }
 
-/// The parity of blocks that lie one after the other, for callers in C. Answers whether it was worked out: there are 2 to 7
-/// whole blocks and the buffer has the length of one. Otherwise the buffer is as it was.
-#[unsafe(no_mangle)]
-pub extern "C" fn dustercyan_parity(blocks: &[u8], into: &mut [u8]) -> bool
+/// The parity of blocks that lie one after the other. Answers whether it was worked out: there are 2 to 7 whole blocks and
+/// the buffer has the length of one. Otherwise the buffer is as it was.
+pub fn flat_parity(blocks: &[u8], into: &mut [u8]) -> bool
     ensures { FlatGives blocks.now into.old result into.new }
 {
     let (whole, rest) = blocks.as_chunks::<512>();

@@ -1,4 +1,6 @@
 // Cuts power in the middle of 24 stores to four members under a write buffer, and tells what stands after power-on.
+#![tactic(auto)]
+
 mod table;
 
 use anyhow::anyhow;
@@ -21,9 +23,9 @@ fn setting(rt: &HostRuntime) -> anyhow::Result<usize> {
     match (words.next(), words.next()) {
         (Some(word), None) => match word.parse::<usize>() {
             Ok(n) => Ok(n),
-            Err(_) => Err(USAGE.into()),
+            Err(_) => Err(anyhow!("{USAGE}")),
         },
-        _ => Err(USAGE.into()),
+        _ => Err(anyhow!("{USAGE}")),
     }
 }
 

@@ -1,4 +1,6 @@
 //! A fuse that is set from outside, while it lies below other stores or in an array.
+#![tactic(auto)]
+
 ghost use Rattle.std.specs.Prelude.{◌≡◌, false, length, None as Unset};
 ghost use Rattle.member_store.specs.Refusals.{off_at, off_at_barrier};
 ghost use Rattle.member_store.specs.Calls.{checks, barrier_checks, Reads, Stores, Bars, PoweredOn};

@@ -1,5 +1,7 @@
 // The power-cut sheet: cuts power at every store and barrier of a load and of the resynchronization after it, over both
 // logs, and tells what was found.
+#![tactic(auto)]
+
 mod cuts;
 mod disks;
 mod load;

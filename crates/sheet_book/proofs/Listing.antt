@@ -1,8 +1,8 @@
 -- Writes on a list, one by one.
-use Rattle.std.proofs.Common.{◌≡◌, ℕ, ◌+◌, ◌<◌, List, [], ◌∷◌, ◌++◌, length, get_or, drop, set, replicate, sym, refl, ap, ◌∙◌, append_assoc}
+use Rattle.std.proofs.Common.{◌≡◌, ℕ, ◌+◌, ◌<◌, List, [], ◌∷◌, ◌++◌, length, get_or, drop, set, replicate, sym, ap, ◌∙◌, append_assoc}
 use lib.ListN.{length-replicate}
 use lib.Seq.{set_at}
-use Rattle.std.specs.List.{ContainsAt as Has, AllByRecursion as All}
+use Rattle.std.specs.List.{AllByRecursion as All}
 use Rattle.std.proofs.lemmas.List.{get_or_default, drop_more, replicate_more}
 use Rattle.std.proofs.ByRecursion.{all-has}
 use Rattle.sheet_book.specs.declared.book.Accepted.{Accepted}

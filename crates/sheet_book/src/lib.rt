@@ -1,5 +1,7 @@
 //! The book of the power-cut sheet: what each block may hold after a cut, by the calls that were accepted. It knows
 //! nothing of the array.
+#![tactic(auto)]
+
 ghost use Rattle.std.specs.Prelude.{◌≡◌, [], ◌∷◌, ◌++◌, length, replicate, IfOk, vec_len, Decides, MatchOption, MatchResult, OnOk, ◌≢◌, slice_set};
 ghost use Rattle.sheet_book.specs.Pages.{zeros, zero_writes, rebased, Gives, OnList, MayHold};
 
@@ -27,7 +29,7 @@ impl Accepted {
     fn gives(&self, block: usize, bytes: &[u8]) -> bool
         ensures { Decides result (Gives block bytes.now self.now) }
     {
-        self.block == block && self.bytes == bytes
+        self.block == block && self.bytes.as_slice() == bytes
     }
 }
 
@@ -123,6 +125,7 @@ impl Book {
     pub fn allows(&self, block: usize, bytes: &[u8]) -> bool
         ensures { Decides result (MayHold self.now.bases.items self.now.writes.items block bytes.now) }
     {
-        block < self.bases.len() && (self.bases[block] == bytes || self.lists(block, bytes))
+        block < self.bases.len()
+            && (self.bases[block].as_slice() == bytes || self.lists(block, bytes))
     }
 }

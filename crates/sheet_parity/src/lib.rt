@@ -1,5 +1,7 @@
 //! Which stripes of four members have right parity, by the bytes of the members alone: no array, layout or library of
 //! parity is asked.
+#![tactic(auto)]
+
 ghost use Rattle.std.specs.Prelude.{◌≡◌, ◌≤◌, Decides, MatchOption};
 ghost use Rattle.member_store.specs.Meaning.{HasBlock, current};
 ghost use Rattle.memory_store.specs.Memory.{memory_means};

@@ -1,4 +1,6 @@
 // Plays a scenario of array calls and power cuts from standard input, and writes a line for each.
+#![tactic(auto)]
+
 mod ages;
 mod answer;
 mod command;

@@ -1,4 +1,5 @@
 // Tests of the member stores: the kinds stacked, all refusals, and a cut at each call of a short script.
+#![tactic(auto)]
 
 #[cfg(test)]
 mod tests {

@@ -1,5 +1,7 @@
 //! `stripe MEMBERS RLQ LOST` lays the bytes of standard input over the members of an array with parity, forgets one
 //! member, works its blocks out of the others, and puts the bytes together again.
+#![tactic(auto)]
+
 mod carry;
 mod input;
 mod summary;

@@ -2,6 +2,7 @@
 ghost use Rattle.std.specs.Prelude.{◌<◌, IfSome};
 ghost use Rattle.geometry.specs.Counts.{counted};
 
+use anyhow::anyhow;
 use geometry::shape::MemberCount;
 use std::alloc::Global;
 use std::env;
@@ -56,10 +57,10 @@ pub fn order_of(members: &str, qualifier: &str, lost: &str) -> Option<Order>
 pub fn read_order(rt: &HostRuntime) -> anyhow::Result<Order> {
     let words: Vec<String> = env::args(rt)?.collect(rt.alloc())?;
     if words.len() != 4 {
-        return Err(USAGE.into());
+        return Err(anyhow!("{USAGE}"));
     }
     match order_of(words[1].as_str(), words[2].as_str(), words[3].as_str()) {
         Some(order) => Ok(order),
-        None => Err(USAGE.into()),
+        None => Err(anyhow!("{USAGE}")),
     }
 }

@@ -1,11 +1,10 @@
 -- A destage, put together, and what it leaves. Assumes nothing.
-use Rattle.std.proofs.Common.{◌≡◌, ℕ, zero, suc, ◌+◌, ◌-◌, ◌<◌, ◌≤◌, true, ◌⊎◌, List, [], ◌∷◌, ◌++◌, Ok, Err, Result, sym, refl, ap, ◌∙◌, subst, inl, inr, ⊎_elim, arith}
+use Rattle.std.proofs.Common.{◌≡◌, ℕ, zero, suc, ◌-◌, ◌<◌, ◌≤◌, List, [], ◌∷◌, ◌++◌, Result, sym, ap, ◌∙◌, subst, arith}
 use native.Mathlib.Decide.{ℕ_discrete}
-use Rattle.std.specs.Result as results
 use Rattle.std.proofs.lemmas.Result.{MatchResult-weaker}
 use Rattle.geometry.specs.Layouts.{Arrangement}
 use Rattle.parity.specs.Xor.{parity_of}
-use Rattle.member_store.specs.Meaning.{Meaning, current, HasBlock}
+use Rattle.member_store.specs.Meaning.{Meaning, HasBlock}
 use Rattle.member_store.specs.declared.refusal.Refusal.{Refusal}
 use Rattle.device_calls.specs.Lists.{DeviceCall, read, store, Completed, Stopped, Performs, for_each}
 use Rattle.device_calls.specs.Effects.{Every, InRange, Spares, Reading, Gains, CutShort}
@@ -14,11 +13,10 @@ use Rattle.device_calls.proofs.Properties.{every_then, every_first, every_second
 use Rattle.device_calls.proofs.Left.{still_has, completed_counts, completed_range, completed_spares, completed_gains, completed_reading, cut_short, cut_weaker}
 use Rattle.stripe_work.specs.Stripe.{Stripe, stripe_at, data_at, parity_at, InStore}
 use Rattle.stripe_work.specs.Work.{CachedBlocks, or_else, merged, merged_data, uncached_read, cached_store, data_reads, data_stores, parity_store, destage_calls}
-use Rattle.stripe_work.specs.Answers.{stripe_check, Answers, Fails, Unfinished}
+use Rattle.stripe_work.specs.Answers.{stripe_check, Answers, Unfinished}
 use Rattle.stripe_work.specs.Outcomes.{Destaged, OthersSpared}
 use Rattle.stripe_work.specs.Promises.{Destages}
 use Rattle.stripe_work.specs.declared.refusal.StripeRefusal.{StripeRefusal}
-use Rattle.stripe_work.specs.declared.refusal.StripeRefusal.TheVariants.{NoStripe, NoMember, NoBlock, Device}
 use Rattle.stripe_work.proofs.Rows.{listed_same}
 use Rattle.stripe_work.proofs.Turns.{moved}
 use Rattle.stripe_work.proofs.Parts.{Distinct, cached_spares, either_in_range, stored_here, reads_every, stores_every, others_spared}

@@ -1,16 +1,15 @@
 -- Properties of the parts of the work on a stripe. Assumes nothing.
-use Rattle.std.proofs.Common.{◌≡◌, ℕ, zero, suc, ◌-◌, ◌<◌, ◌≤◌, true, ◌⊎◌, List, [], ◌∷◌, ◌++◌, get_or, replicate, Some, None, Option, sym, refl, ap, ◌∙◌, subst, inl, inr, ⊎_elim}
+use Rattle.std.proofs.Common.{◌≡◌, ℕ, zero, suc, ◌<◌, true, List, [], ◌∷◌, replicate, Some, None, Option, refl, ap, ◌∙◌, subst, ⊎_elim}
 use Rattle.std.proofs.lemmas.Slice.Eq.{bytes_eq-Decides}
 use Rattle.parity.specs.Xor.{parity_of}
 use Rattle.geometry.specs.Layouts.{Arrangement, Lawful}
 use Rattle.member_store.specs.Meaning.{Meaning, current, HasBlock, Version}
-use Rattle.device_calls.specs.Lists.{DeviceCall, read, store, Completed, Stopped, for_each}
+use Rattle.device_calls.specs.Lists.{DeviceCall, read, store, Completed}
 use Rattle.device_calls.specs.Effects.{Every, InRange, Spares, Reading, Gains}
 use Rattle.device_calls.proofs.Append.{for_each_same}
 use Rattle.device_calls.proofs.Properties.{every_then, every_for_each, written_not}
-use Rattle.device_calls.proofs.Left.{cut_short, cut_weaker}
-use Rattle.stripe_work.specs.Stripe.{Stripe, stripe_at, data_at, stripe_data, parity_at, parity_right, RightParity, InStore}
-use Rattle.stripe_work.specs.Work.{CachedBlocks, none_cached, cached_in, or_else, merged, merged_data, uncached_read, cached_store, data_reads, data_stores, parity_store, check_calls}
+use Rattle.stripe_work.specs.Stripe.{Stripe, stripe_at, data_at, stripe_data, parity_at, parity_right, RightParity}
+use Rattle.stripe_work.specs.Work.{CachedBlocks, none_cached, cached_in, or_else, merged, merged_data, uncached_read, cached_store, data_reads, data_stores, check_calls}
 use Rattle.stripe_work.specs.Outcomes.{OthersSpared}
 use Rattle.stripe_work.proofs.Rows.{listed_same}
 

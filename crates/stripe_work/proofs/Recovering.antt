@@ -1,23 +1,23 @@
 -- One member's block out of the others: the reads, the bytes, and that they are what that member held. Assumes nothing.
-use Rattle.std.proofs.Common.{◌≡◌, ℕ, zero, suc, ◌+◌, ◌-◌, ◌<◌, ◌≤◌, Bool, true, false, cond, eqb, ◌⊎◌, List, [], ◌∷◌, ◌++◌, length, get_or, sym, refl, ap, ◌∙◌, subst, inl, inr, ⊎_elim, add-one, arith}
+use Rattle.std.proofs.Common.{◌≡◌, ℕ, zero, suc, ◌+◌, ◌-◌, ◌<◌, Bool, true, false, cond, eqb, List, [], ◌∷◌, ◌++◌, length, get_or, sym, refl, ap, ◌∙◌, subst, ⊎_elim, add-one, arith}
 use lib.Bits.{bit_xor, xor_assoc, xor_comm, xor_self, xor_zero_l, xor_zero_r}
 use Rattle.std.proofs.lemmas.List.{ext_get_or}
 use Rattle.std.proofs.lemmas.List.FromFn.{length-map-range_with_len, get_or-map-range_with_len}
 use Rattle.std.proofs.lemmas.Bool.{cases_eq, eq-eqb, ne_eqb, eqb-false}
 use Rattle.geometry.specs.Layouts.{Arrangement, Lawful}
-use Rattle.parity.specs.Xor.{parity_of, Whole, without, OthersGive, byte_sum}
+use Rattle.parity.specs.Xor.{parity_of, Whole, without, byte_sum}
 use Rattle.parity.proofs.Others.{parity_length, any_block, laws}
-use Rattle.member_store.specs.Meaning.{Meaning, current, HasBlock}
+use Rattle.member_store.specs.Meaning.{Meaning, current}
 use Rattle.member_store.specs.declared.refusal.Refusal.{Refusal}
 use Rattle.device_calls.specs.Lists.{DeviceCall, read, Completed, Stopped, for_each}
 use Rattle.device_calls.specs.Effects.{Every, InRange, Spares, Avoids, Reading, CutShort}
 use Rattle.device_calls.proofs.Append.{for_each_more, for_each_stopped}
 use Rattle.device_calls.proofs.Properties.{every_for_each, every_weaker, written_not, reading_spares}
 use Rattle.device_calls.proofs.Left.{completed_reading, cut_short, cut_weaker}
-use Rattle.stripe_work.specs.Stripe.{Stripe, stripe_at, listed, data_at, stripe_data, RightParity, row_blocks}
+use Rattle.stripe_work.specs.Stripe.{Stripe, stripe_at, listed, data_at, stripe_data, RightParity}
 use Rattle.stripe_work.specs.Work.{other_reads, reconstructed}
-use Rattle.stripe_work.specs.Outcomes.{SameBut, Recovers, OthersInStore}
-use Rattle.stripe_work.proofs.Rows.{listed_more, listed_same}
+use Rattle.stripe_work.specs.Outcomes.{Recovers, OthersInStore}
+use Rattle.stripe_work.proofs.Rows.{listed_more}
 use Rattle.stripe_work.proofs.Sums.{sum, sum_splits, sum_by_position}
 use Rattle.stripe_work.proofs.Without.{rest_absent, rest_more}
 

@@ -1,5 +1,5 @@
 -- A check and a step of resynchronization, put together, and what they leave. Assumes nothing.
-use Rattle.std.proofs.Common.{◌≡◌, ℕ, ◌<◌, Bool, true, false, cond, not, ◌⊎◌, List, [], ◌∷◌, ◌++◌, replicate, None, Decides, Result, sym, refl, ap, ◌∙◌, subst, inl, inr, ⊎_elim}
+use Rattle.std.proofs.Common.{◌≡◌, ℕ, ◌<◌, Bool, true, false, cond, List, [], ◌∷◌, replicate, None, Decides, Result, sym, refl, ap, ◌∙◌, subst}
 use Rattle.std.specs.Str.{bytes_eq}
 use Rattle.std.proofs.lemmas.Slice.Eq.{bytes_eq-Decides}
 use Rattle.std.proofs.lemmas.Bool.Decides.{same_from_decides}
@@ -7,17 +7,17 @@ use Rattle.parity.specs.Xor.{parity_of}
 use Rattle.member_store.specs.Meaning.{Meaning, current, HasBlock}
 use Rattle.member_store.specs.declared.refusal.Refusal.{Refusal}
 use Rattle.device_calls.specs.Lists.{DeviceCall, read, store, Completed, Stopped, Performs}
-use Rattle.device_calls.specs.Effects.{Every, InRange, Spares, Reading, Written, CutShort}
-use Rattle.device_calls.proofs.Append.{completed_then, completed_split, stopped_first, stopped_then, performs_then}
+use Rattle.device_calls.specs.Effects.{Every, InRange, Spares, Reading, CutShort}
+use Rattle.device_calls.proofs.Append.{completed_then, completed_split, stopped_first, performs_then}
 use Rattle.device_calls.proofs.Properties.{every_then, every_first, every_turn, every_weaker, written_not, reading_spares}
 use Rattle.device_calls.proofs.Left.{completed_counts, completed_on, completed_range, completed_spares, completed_gains, completed_reading, cut_short, cut_weaker}
 use Rattle.member_store.proofs.Checks.{passed}
 use Rattle.stripe_work.specs.Stripe.{Stripe, data_at, stripe_data, parity_at, parity_right, RightParity, InStore}
-use Rattle.stripe_work.specs.Work.{none_cached, cached_in, data_reads, parity_store, merged_data, check_calls, resync_calls}
+use Rattle.stripe_work.specs.Work.{none_cached, cached_in, data_reads, parity_store, check_calls, resync_calls}
 use Rattle.stripe_work.specs.Outcomes.{Resynced, OthersSpared}
 use Rattle.stripe_work.proofs.Rows.{listed_same}
 use Rattle.stripe_work.proofs.Turns.{moved}
-use Rattle.stripe_work.proofs.Parts.{Distinct, right_from_test, check_every, check_reads, others_spared, same_reads, same_data, reads_every}
+use Rattle.stripe_work.proofs.Parts.{Distinct, right_from_test, check_every, check_reads, others_spared, same_reads, reads_every}
 
 -- the reads of a stripe of which nothing is cached, as an array of seven says
 abbrev first_reads : Stripe → List DeviceCall

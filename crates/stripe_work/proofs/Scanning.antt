@@ -1,5 +1,5 @@
 -- A scan: one stripe more. Assumes nothing.
-use Rattle.std.proofs.Common.{◌≡◌, ℕ, zero, suc, ◌+◌, ◌<◌, ◌≤◌, Bool, true, false, cond, List, [], sym, refl, ap, ◌∙◌, subst, add-one, arith}
+use Rattle.std.proofs.Common.{◌≡◌, ℕ, ◌+◌, ◌<◌, Bool, cond, List, [], sym, ap, ◌∙◌, subst, add-one}
 use Rattle.geometry.specs.Layouts.{Arrangement}
 use Rattle.geometry.specs.Places.{stripes}
 use Rattle.member_store.specs.Meaning.{Meaning}

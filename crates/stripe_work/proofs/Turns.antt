@@ -1,5 +1,5 @@
 -- One position more: read unless it is cached, stored if it is. Assumes nothing.
-use Rattle.std.proofs.Common.{◌≡◌, ℕ, ◌+◌, ◌<◌, List, [], ◌∷◌, Some, None, Option, sym, refl, ap, ◌∙◌, subst}
+use Rattle.std.proofs.Common.{◌≡◌, ℕ, ◌+◌, ◌<◌, List, [], ◌∷◌, Some, None, sym, refl, ap, ◌∙◌, subst}
 use Rattle.member_store.specs.Meaning.{Meaning}
 use Rattle.member_store.specs.declared.refusal.Refusal.{Refusal}
 use Rattle.device_calls.specs.Lists.{DeviceCall, read, store, Completed, Stopped, for_each}

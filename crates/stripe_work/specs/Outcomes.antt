@@ -1,5 +1,5 @@
 -- What the work on a stripe leaves, in terms of data, parity and versions.
-use Rattle.std.specs.Prelude.{◌≡◌, ℕ, ◌<◌, Bool, true, List, length, ◌≢◌}
+use Rattle.std.specs.Prelude.{◌≡◌, ℕ, ◌<◌, true, List, length, ◌≢◌}
 use Rattle.member_store.specs.Meaning.{Meaning, current, HasBlock, Version}
 use Rattle.member_store.specs.Calls.{SameCounts}
 use Rattle.device_calls.specs.Effects.{Gains}

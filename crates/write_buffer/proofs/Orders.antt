@@ -4,7 +4,7 @@ use Rattle.std.proofs.lemmas.List.{map_push}
 use Rattle.std.specs.List.{remove}
 use Rattle.std.specs.Result.{result_err}
 use Rattle.member_store.specs.Meaning.{Meaning}
-use Rattle.member_store.specs.Calls.{Stores, Bars, Stored, checks, barrier_checks}
+use Rattle.member_store.specs.Calls.{Stores, Bars, checks, barrier_checks}
 use Rattle.member_store.specs.declared.refusal.Refusal.{Refusal}
 use Rattle.write_buffer.specs.Passing.{power_refusal, remaining, PassesOldest, PassesAll}
 use Rattle.write_buffer.specs.Buffer.{content, Appended, BufferReads, MakesRoom, BufferStores, BufferBars}

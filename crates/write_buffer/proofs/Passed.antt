@@ -1,11 +1,9 @@
 -- What the calls of the store below leave of the whole, under held stores.
-use Rattle.std.proofs.Common.{◌≡◌, ℕ, ◌<◌, Bool, true, false, cond, ◌⊎◌, List, [], ◌∷◌, ◌++◌, length, Some, None, Ok, Err, Option, Result, sym, refl, ap, ◌∙◌, subst, inl, inr, ⊎_elim}
+use Rattle.std.proofs.Common.{◌≡◌, ℕ, ◌<◌, true, false, ◌⊎◌, List, [], ◌∷◌, ◌++◌, length, Ok, Err, Result, sym, refl, ap, ◌∙◌, subst, inl, inr, ⊎_elim}
 use Rattle.std.proofs.lemmas.Bool.{both_ways}
-use Rattle.std.specs.Option as options
-use Rattle.std.specs.Result.{result_err}
 use Rattle.member_store.specs.Meaning.{Meaning, Version, current, HasBlock, last_or, In}
-use Rattle.member_store.specs.Refusals.{IsPowerOff, off_at}
-use Rattle.member_store.specs.Calls.{SameCounts, Cut, CutStore, Stored, Barred, PoweredOn, Stores, Reads, Bars, Refused, checks, barrier_checks}
+use Rattle.member_store.specs.Refusals.{IsPowerOff}
+use Rattle.member_store.specs.Calls.{SameCounts, Cut, CutStore, Stored, Barred, PoweredOn, Stores, Reads, Bars, checks, barrier_checks}
 use Rattle.member_store.specs.declared.refusal.Refusal.{Refusal}
 use Rattle.member_store.proofs.Checks.{passing}
 use Rattle.member_store.proofs.Refusals.{some≢none, refused_cases, refused_went, refused_weaker}

@@ -1,9 +1,9 @@
 -- What a write buffer says of its own calls: what is held after each, and what goes below. A buffer is spoken of by
 -- the stores that it holds and the store below.
-use Rattle.std.specs.Prelude.{◌≡◌, ℕ, ◌<◌, true, false, List, [], ◌∷◌, ◌++◌, map, length, Some, None, Ok, Err, MatchBool, Option, Result, nat_lt, slice_index_or}
+use Rattle.std.specs.Prelude.{◌≡◌, ℕ, ◌<◌, true, false, List, [], ◌∷◌, ◌++◌, map, length, None, Ok, Err, MatchBool, Option, Result, nat_lt, slice_index_or}
 use Rattle.std.specs.Option as options
 use Rattle.member_store.specs.Meaning.{Meaning, current}
-use Rattle.member_store.specs.Calls.{checks, barrier_checks, Reads, Bars, PoweredOn}
+use Rattle.member_store.specs.Calls.{checks, barrier_checks, Bars}
 use Rattle.member_store.specs.declared.refusal.Refusal.{Refusal}
 use Rattle.write_buffer.specs.Replay.{holds, buffered}
 use Rattle.write_buffer.specs.Passing.{PassesOldest, PassesAll}

@@ -3,7 +3,7 @@ use Rattle.std.specs.Prelude.{◌≡◌, ℕ, Bool, true, false, cond, ◌⊎◌
 use Rattle.std.proofs.Common.{sym, ap, ◌∙◌, inl, inr, ⊎_elim}
 use Rattle.std.proofs.lemmas.Bool.{true≢false, and_parts, and_from, eqb-true, eq-eqb, both_ways}
 use Rattle.member_store.specs.Meaning.{last_or, In}
-use Rattle.member_store.proofs.Versions.{last_push, last_cond, in_cond, cond_in}
+use Rattle.member_store.proofs.Versions.{last_push, in_cond, cond_in}
 use Rattle.write_buffer.specs.Replay.{is_to, holds, replay}
 use Rattle.write_buffer.specs.declared.held.HeldStore.{HeldStore}
 

@@ -1,4 +1,6 @@
 // The write buffer: over any member store, holds up to 8 stores back.
+#![tactic(auto)]
+
 ghost use Rattle.std.specs.Prelude.{◌≡◌, ◌+◌, ◌<◌, true, false, [], length, IfNone, vec_len, MatchOption, MatchResult};
 ghost use Rattle.member_store.specs.Meaning.{current};
 ghost use Rattle.member_store.specs.Refusals.{IsPowerOff};

@@ -1,5 +1,5 @@
-use Rattle.std.proofs.Common.{◌≡◌, ◌+◌, ◌-◌, ◌<◌, ◌≤◌, Ok, Err, sym, ap, ◌∙◌, subst, arith}
-use Rattle.member_store.specs.Calls.{Stored, Stores, Barred}
+use Rattle.std.proofs.Common.{◌≡◌, ◌+◌, ◌-◌, ◌≤◌, Err, subst, arith}
+use Rattle.member_store.specs.Calls.{Stored, Stores}
 use Rattle.cut_script.specs.Account.{fill, Accounted}
 use Rattle.cut_script.proofs.Accounts.{Account, stored, store_refused, barred_at, barrier_refused}
 use Rattle.cut_script.proofs.run.Goals as goal

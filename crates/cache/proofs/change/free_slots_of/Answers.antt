@@ -10,7 +10,7 @@ loop-i-preserved c =
     let xs = c.args.slots.now in
     let a = c.args.shape in
     let l : c.loop-i.i < length xs = omega arith in
-    front_more (slot_freed (in_stripe (members_of a) (blocks_of a) c.args.stripe)) xs c.loop-i.slots _ c.loop-i.i _ l c.loop-i.invariant (ap (λ o. record { owner = o; block = (get_or c.loop-i.slots c.loop-i.i _).block; bytes = (get_or c.loop-i.slots c.loop-i.i _).bytes }) (c.after_freeing.ensures ∙ ap (λ q. owner_freed q (get_or c.loop-i.slots c.loop-i.i _).owner) c.is-in-stripe_freed.ensures))
+    front_more (slot_freed (in_stripe (members_of a) (blocks_of a) c.args.stripe)) xs c.loop-i.slots _ c.loop-i.i _ l c.loop-i.invariant (ap (λ o. record { owner = o; block = (get_or c.loop-i.slots c.loop-i.i _).block; bytes = (get_or c.loop-i.slots c.loop-i.i _).bytes }) (c.after_freeing.ensures ∙ ap (λ q. owner_freed q (get_or c.loop-i.slots c.loop-i.i _).owner) c.is_in_stripe-freed.ensures))
 
 pub returns : goal.returns
 returns c =

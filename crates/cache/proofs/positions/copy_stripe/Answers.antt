@@ -15,7 +15,7 @@ loop-position-preserved c =
     let d : Slot = record { owner = Free; block = 0; bytes = [] } in
     let i = c.loop-position.invariant in (
       c.match-slot_at.array_long,
-      c.match-slot_at.array-long2,
+      c.match-slot_at.array_long2,
       elim c.match-slot_at.branch [
         | in-Some v ↦ simp (v.held-is, v.rows-is) (copied_row f c.args.rows.now c.loop-position.position c.loop-position.held c.loop-position.rows i.2 (omega arith) (get_or c.args.slots.now v.in-Some.i d).bytes (omega arith) (v.in-Some.ensures.1 d))
         | in-None v ↦ simp (v.held-is, v.rows-is) (copied_gap f c.args.rows.now c.loop-position.position c.loop-position.held c.loop-position.rows i.2 (omega arith) v.in-None.ensures)

@@ -3,7 +3,7 @@ use Rattle.std.proofs.lemmas.List.{at_drop_more, at_drop_all}
 use Rattle.cache.specs.Contents.{one_if}
 use Rattle.cache.specs.Slots.{slot_count}
 use Rattle.cache.proofs.search.slots_owned.Goals as goal
-use Rattle.cache.proofs.search.slots_owned.Goals.{then_is, else_is}
+use Rattle.cache.proofs.search.slots_owned.Goals.{then-is, else-is}
 
 pub loop-i-preserved : goal.loop-i-preserved
 loop-i-preserved c =
@@ -13,8 +13,8 @@ loop-i-preserved c =
     let l : i < length xs = omega arith in
     let e : slot_count o (drop i xs) ≡ one_if c.is.result + slot_count o (drop (i + 1) xs) = at_drop_more (slot_count o) xs i _ l ∙ ap (λ q. one_if q + slot_count o (drop (i + 1) xs)) (sym c.is.ensures) in
     elim c.if-is.branch [
-      | then_is v ↦ let a : one_if c.is.result ≡ 1 = ap one_if v.if-is.true in let b = v.count-is in (omega arith, omega arith)
-      | else_is v ↦ let a : one_if c.is.result ≡ 0 = ap one_if v.if-is.false in let b = v.count-is in (omega arith, omega arith)
+      | then-is v ↦ let a : one_if c.is.result ≡ 1 = ap one_if v.if-is.true in let b = v.count-is in (omega arith, omega arith)
+      | else-is v ↦ let a : one_if c.is.result ≡ 0 = ap one_if v.if-is.false in let b = v.count-is in (omega arith, omega arith)
     ]
 
 pub returns : goal.returns

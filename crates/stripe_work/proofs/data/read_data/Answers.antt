@@ -1,4 +1,4 @@
-use Rattle.std.proofs.Common.{◌≡◌, ℕ, ◌-◌, ◌<◌, List, length, take, None, sym, refl, ap, ◌∙◌, subst, arith, rules}
+use Rattle.std.proofs.Common.{◌≡◌, ℕ, ◌-◌, ◌<◌, length, take, sym, refl, ap, ◌∙◌, subst, arith, rules}
 use Rattle.geometry.specs.Counts.{members_of}
 use Rattle.member_store.specs.Meaning.{current}
 use Rattle.device_calls.specs.Lists.{Completed, for_each}

@@ -1,4 +1,4 @@
-use Rattle.std.proofs.Common.{◌≡◌, ℕ, ◌-◌, ◌<◌, None, sym, refl, ap, ◌∙◌, subst, arith, rules}
+use Rattle.std.proofs.Common.{◌≡◌, ℕ, ◌-◌, ◌<◌, None, subst, arith, rules}
 use Rattle.geometry.specs.Counts.{members_of}
 use Rattle.device_calls.specs.Lists.{Completed, for_each}
 use Rattle.stripe_work.specs.Stripe.{stripe_at}

@@ -1,9 +1,8 @@
-use Rattle.std.proofs.Common.{◌≡◌, ◌<◌, None, refl, arith}
+use Rattle.std.proofs.Common.{◌<◌, arith}
 use Rattle.std.proofs.lemmas.Bool.{lt-ltb}
 use Rattle.geometry.specs.Counts.{members_of, blocks_of}
 use Rattle.stripe_work.specs.Stripe.{stripe_at}
 use Rattle.stripe_work.specs.Work.{cached_in}
-use Rattle.stripe_work.specs.Answers.{stripe_check}
 use Rattle.stripe_work.proofs.Parts.{distinct}
 use Rattle.stripe_work.proofs.Destaging.{destaged, destage_cut, destage_others, destage_cut_others}
 use Rattle.stripe_work.proofs.destage.destage_stripe.Goals as goal

@@ -9,8 +9,8 @@ use Rattle.stripe_work.proofs.Recovering.{pass_absent, more_other, stop_other}
 use Rattle.stripe_work.proofs.reconstruct.read_others.Goals as goal
 use Rattle.stripe_work.proofs.reconstruct.read_others.Goals.{then-member-absent+in_default, else-member-absent}
 
-pub offset-bounds-rows-count : goal.offset-bounds-rows-count
-offset-bounds-rows-count g c =
+pub offset_bounds-rows-count : goal.offset_bounds-rows-count
+offset_bounds-rows-count g c =
     let s = g.S.MemberStore.meaning c.args.store.now in
     let b = c.args.absent.block in
     let d = c.args.absent.member in

@@ -1,6 +1,5 @@
 use Rattle.std.proofs.Common.{◌≡◌, length, take}
 use Rattle.parity.specs.Xor.{without}
-use Rattle.member_store.specs.Meaning.{current}
 use Rattle.device_calls.specs.Lists.{Completed}
 use Rattle.stripe_work.specs.Stripe.{row_blocks}
 use Rattle.stripe_work.specs.Work.{other_reads}

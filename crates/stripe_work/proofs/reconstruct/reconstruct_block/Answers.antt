@@ -1,4 +1,4 @@
-use Rattle.std.proofs.Common.{◌≡◌, ℕ, ◌-◌, ◌<◌, ◌≤◌, true, false, take, is_some, sym, refl, ap, ◌∙◌, subst, arith, rules}
+use Rattle.std.proofs.Common.{◌≡◌, ℕ, ◌-◌, ◌<◌, ◌≤◌, take, sym, refl, ap, ◌∙◌, subst, arith, rules}
 use Rattle.geometry.specs.Counts.{members_of, blocks_of}
 use Rattle.parity.specs.Xor.{parity_of, without}
 use Rattle.device_calls.specs.Lists.{Completed, Stopped}

@@ -1,4 +1,4 @@
-use Rattle.std.proofs.Common.{◌≡◌, ℕ, ◌+◌, ◌<◌, true, false, sym, refl, ap, ◌∙◌, subst, add-zero, arith, rules}
+use Rattle.std.proofs.Common.{◌≡◌, ℕ, ◌<◌, true, false, sym, refl, ap, ◌∙◌, subst, add-zero, arith, rules}
 use Rattle.geometry.specs.Counts.{members_of, blocks_of}
 use Rattle.device_calls.specs.Lists.{Completed, for_each}
 use Rattle.stripe_work.specs.Stripe.{stripe_at, parity_right}

@@ -1,4 +1,4 @@
-use Rattle.std.proofs.Common.{◌≡◌, vec_items, sym}
+use Rattle.std.proofs.Common.{vec_items, sym}
 use Rattle.member_store.proofs.Refusals.{refused_went}
 use Rattle.write_buffer.specs.Replay.{buffered}
 use Rattle.write_buffer.proofs.Orders.{stores_held, stores_stopped}

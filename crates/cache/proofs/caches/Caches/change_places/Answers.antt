@@ -8,7 +8,7 @@ invariant_of-self c =
     let xs = s.slots in
     let ys = c.exchange.new.slots in
     let e = c.exchange.ensures in
-    (exchanged_length xs ys e s.whole, (exchanged_each_once Destaging xs ys e s.destaged, (exchanged_each_once Buffering xs ys e s.buffered, tt)))
+    record { whole = exchanged_length xs ys e s.whole; buffered = exchanged_each_once Destaging xs ys e s.destaged; destaged = exchanged_each_once Buffering xs ys e s.buffered }
 
 pub returns : goal.returns
 returns c = exchanged_contents c.args.self.now.slots c.exchange.new.slots c.exchange.ensures

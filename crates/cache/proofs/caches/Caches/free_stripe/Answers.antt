@@ -10,7 +10,7 @@ invariant_of-self c =
     let ys = c.free_slots_of.new.slots in
     let t = in_stripe (members_of c.args.shape) (blocks_of c.args.shape) c.args.stripe in
     let e = c.free_slots_of.ensures in
-    (freed_length t xs ys e s.whole, (freed_buffering t xs ys e s.buffered, (freed_destaging t xs ys e s.destaged, tt)))
+    record { whole = freed_length t xs ys e s.whole; buffered = freed_buffering t xs ys e s.buffered; destaged = freed_destaging t xs ys e s.destaged }
 
 pub returns : goal.returns
 returns c =

@@ -14,12 +14,12 @@ invariant_of-self c =
       | in-Some v ↦
           let r = v.in-Some.ensures.first in
           let p = put_found b x xs v.in-Some.i (filled b x) _ s.buffered s.destaged r.0 r.1 (r.2 (filled b x)).0 (r.2 (filled b x)).1 in
-          (w, (simp v.i-is p.buffered, (simp v.i-is p.destaged, tt)))
+          record { whole = w; buffered = simp v.i-is p.buffered; destaged = simp v.i-is p.destaged }
       | in-None+in-Some-free_slot v ↦
           let r = v.in-Some-free_slot.ensures in
           let l : v.in-Some-free_slot.i < length xs = omega (arith, s.whole) in
           let p = put_new b x xs v.in-Some-free_slot.i (filled b x) s.buffered s.destaged l (r.1 (filled b x)) v.in-None.ensures.first in
-          (w, (simp v.i-is p.buffered, (simp v.i-is p.destaged, tt)))
+          record { whole = w; buffered = simp v.i-is p.buffered; destaged = simp v.i-is p.destaged }
     ]
 
 pub returns : goal.returns

@@ -1,4 +1,4 @@
-use Rattle.std.proofs.Common.{refl, arith, rules}
+use Rattle.std.proofs.Common.{refl, arith}
 use Rattle.memory_store.specs.Rooms.{within}
 use Rattle.memory_store.proofs.memory.MemoryStore.offset.Goals as goal
 

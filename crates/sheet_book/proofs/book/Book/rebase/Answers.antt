@@ -1,4 +1,4 @@
-use Rattle.std.proofs.Common.{◌≡◌, ◌≤◌, length, vec_items, sym, refl, arith}
+use Rattle.std.proofs.Common.{◌≤◌, length, vec_items, sym, refl, arith}
 use lib.Seq.{set_out}
 use Rattle.sheet_book.proofs.book.Book.rebase.Goals as goal
 

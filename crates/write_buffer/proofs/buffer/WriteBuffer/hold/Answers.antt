@@ -1,6 +1,4 @@
-use Rattle.std.proofs.Common.{List, [], ◌∷◌, ◌++◌, map, vec_items, refl, ap, ◌∙◌}
-use Rattle.std.proofs.lemmas.List.{map_push}
-use Rattle.write_buffer.specs.Buffer.{content}
+use Rattle.std.proofs.Common.{vec_items, refl}
 use Rattle.write_buffer.proofs.Passed.{held_last}
 use Rattle.write_buffer.proofs.Orders.{appended_from}
 use Rattle.write_buffer.proofs.buffer.WriteBuffer.hold.Goals as goal

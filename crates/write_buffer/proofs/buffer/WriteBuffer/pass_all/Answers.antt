@@ -1,4 +1,4 @@
-use Rattle.std.proofs.Common.{◌≡◌, [], None, vec_items, refl, ◌∙◌, arith}
+use Rattle.std.proofs.Common.{◌≡◌, [], None, vec_items, ◌∙◌, arith}
 use Rattle.std.proofs.lemmas.List.{nil_from_length}
 use Rattle.write_buffer.proofs.Orders.{oldest_then_all, oldest_stops, passes_none}
 use Rattle.write_buffer.proofs.Passed.{fewer_then, cut_then}
