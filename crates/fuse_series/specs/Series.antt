@@ -1,4 +1,4 @@
--- A series of settings, the next one last: which one a power_on takes, and those that remain.
+-- A series of settings, the next one last: which one a power-on takes, and those that remain.
 use Rattle.std.specs.Prelude.{ℕ, ◌-◌, List, length, take, None, Option, slice_index_or}
 
 -- The last setting; no setting where the series has ended.

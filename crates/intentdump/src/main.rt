@@ -50,10 +50,10 @@ fn asked(rt: &HostRuntime) -> anyhow::Result<Request> {
         words.next(),
         words.next(),
     ) else {
-        return Err(USAGE.into());
+        return Err(anyhow!("{USAGE}"));
     };
     let Some(kind) = kind_of(kind.as_str()) else {
-        return Err(USAGE.into());
+        return Err(anyhow!("{USAGE}"));
     };
     match (members.parse::<usize>(), blocks.parse::<usize>()) {
         (Ok(members), Ok(blocks)) => Ok(Request {
@@ -61,7 +61,7 @@ fn asked(rt: &HostRuntime) -> anyhow::Result<Request> {
             members,
             blocks,
         }),
-        _ => Err(USAGE.into()),
+        _ => Err(anyhow!("{USAGE}")),
     }
 }
 

@@ -169,8 +169,8 @@ own_nothing s a on e f =
     makes_passed (power_checks (ring a s)) (clear_calls s.members s.blocks (standing s)) _ s (Ok tt) s (simp on) (subst (λ (os : List DeviceCall). Makes {U = Unit {0}} os s (Ok tt) s) (sym e) refl) (sym f)
 
 pub remembers : (s : Meaning) (r : Contents) (old : Option StandingRecord) (q : Result (Unit {0}) LogRefusal) (new : Option StandingRecord) → results.MatchResult q (λ _. kept new ≡ put_record s.members s.blocks r) (λ _. new ≡ old) → Remembers s r (kept old) q (kept new)
-remembers s r old (Ok u) new h = h
-remembers s r old (Err e) new h = ap kept h
+remembers s r before (Ok u) after h = h
+remembers s r before (Err e) after h = ap kept h
 
 pub empty_list : (ss : List ℕ) → length ss ≡ 0 → ss ≡ []
 empty_list [] e = refl
