@@ -1,4 +1,4 @@
-use Rattle.std.proofs.Common.{◌≡◌, ap, ◌∙◌, subst}
+use Rattle.std.proofs.Common.{ap, ◌∙◌, subst}
 use Rattle.memory_store.specs.declared.memory.MemoryStore.{MemoryStore}
 use Rattle.memory_store.specs.Memory.{memory_means}
 use Rattle.sheet_parity.specs.Right.{AllRight}
