@@ -43,22 +43,22 @@ impl<S: MemberStore> Shows for FlagLog<S> {
     }
 }
 
-fn done(res: Result<(), LogRefusal>) -> Answer {
-    match res {
+fn done(outcome: Result<(), LogRefusal>) -> Answer {
+    match outcome {
         Ok(()) => Answer::Done,
         Err(e) => Answer::Refused(e),
     }
 }
 
-fn truth(res: Result<bool, LogRefusal>) -> Answer {
-    match res {
+fn truth(outcome: Result<bool, LogRefusal>) -> Answer {
+    match outcome {
         Ok(b) => Answer::Truth(b),
         Err(e) => Answer::Refused(e),
     }
 }
 
-fn next(res: Result<Option<u32>, LogRefusal>) -> Answer {
-    match res {
+fn next(outcome: Result<Option<u32>, LogRefusal>) -> Answer {
+    match outcome {
         Ok(n) => Answer::Next(n),
         Err(e) => Answer::Refused(e),
     }
