@@ -2,10 +2,10 @@
 // logs, and tells what was found.
 #![tactic(auto)]
 
+mod bookkeeping;
 mod cuts;
 mod disks;
 mod load;
-mod record;
 mod table;
 mod trial;
 

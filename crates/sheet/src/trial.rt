@@ -1,7 +1,7 @@
 // One trial: an array is formatted and loaded, power is cut, and it is resynchronized.
+use crate::bookkeeping::{note_all, settle};
 use crate::disks::{Disks, wrong_on};
 use crate::load::{DATA_BLOCKS, STRIPES};
-use crate::record::{note_all, settle};
 use array::array::Array;
 use array_model::answer::ResyncCounts;
 use array_model::state::State;
