@@ -15,6 +15,7 @@ use ring_log::ring::RingLog;
 use ring_log::slots_of;
 use std::env;
 use std::io::Read;
+use std::process::ExitCode;
 
 const USAGE: &str = "usage: intentdump ring|flag MEMBERS BLOCKS < IMAGE";
 
@@ -140,10 +141,12 @@ fn run(rt: &HostRuntime) -> anyhow::Result<()> {
     }
 }
 
-fn main(rt: HostRuntime) -> anyhow::Result<()> {
-    let result = run(&rt);
-    if let Err(e) = &result {
-        let _ = rt.eprintln(e);
+fn main(rt: HostRuntime) -> ExitCode {
+    match run(&rt) {
+        Ok(()) => ExitCode::SUCCESS,
+        Err(e) => {
+            let _ = rt.eprintln(&e);
+            ExitCode::FAILURE
+        }
     }
-    result
 }

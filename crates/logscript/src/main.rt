@@ -19,6 +19,7 @@ use std::alloc::Global;
 use std::fmt::Write;
 use std::io::Read;
 use std::mem;
+use std::process::ExitCode;
 use write_buffer::buffer::WriteBuffer;
 
 /// The most bytes of a script: 256 KiB.
@@ -119,10 +120,12 @@ fn run(rt: &HostRuntime) -> anyhow::Result<()> {
     Ok(())
 }
 
-fn main(rt: HostRuntime) -> anyhow::Result<()> {
-    let result = run(&rt);
-    if let Err(e) = &result {
-        let _ = rt.eprintln(e);
+fn main(rt: HostRuntime) -> ExitCode {
+    match run(&rt) {
+        Ok(()) => ExitCode::SUCCESS,
+        Err(e) => {
+            let _ = rt.eprintln(&e);
+            ExitCode::FAILURE
+        }
     }
-    result
 }

@@ -10,6 +10,7 @@ use member_store::{BLOCK_BYTES, MemberStore};
 use memory_store::memory::MemoryStore;
 use std::alloc::Global;
 use std::env;
+use std::process::ExitCode;
 use table::Report;
 use write_buffer::buffer::WriteBuffer;
 
@@ -53,10 +54,12 @@ fn run(rt: &HostRuntime) -> anyhow::Result<()> {
     Ok(())
 }
 
-fn main(rt: HostRuntime) -> anyhow::Result<()> {
-    let result = run(&rt);
-    if let Err(e) = &result {
-        let _ = rt.eprintln(e);
+fn main(rt: HostRuntime) -> ExitCode {
+    match run(&rt) {
+        Ok(()) => ExitCode::SUCCESS,
+        Err(e) => {
+            let _ = rt.eprintln(&e);
+            ExitCode::FAILURE
+        }
     }
-    result
 }

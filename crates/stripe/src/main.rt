@@ -13,6 +13,7 @@ use geometry::shape::{MemberCount, Shape};
 use member_store::MemberStore;
 use memory_store::memory::MemoryStore;
 use std::alloc::Global;
+use std::process::ExitCode;
 use stripe_work::refusal::StripeRefusal;
 use stripe_work::resync::count_wrong_stripes;
 use summary::Summary;
@@ -96,12 +97,12 @@ fn run(rt: &HostRuntime) -> anyhow::Result<()> {
     Ok(())
 }
 
-fn main(rt: HostRuntime) -> anyhow::Result<()> {
+fn main(rt: HostRuntime) -> ExitCode {
     match run(&rt) {
-        Ok(()) => Ok(()),
+        Ok(()) => ExitCode::SUCCESS,
         Err(e) => {
-            rt.eprintln(&e)?;
-            Err(e)
+            let _ = rt.eprintln(&e);
+            ExitCode::FAILURE
         }
     }
 }
