@@ -3,7 +3,7 @@ ghost use Rattle.std.specs.Prelude.{◌≡◌, ◌<◌, ◌≤◌, not};
 ghost use Rattle.geometry.specs.Counts.{members_of, blocks_of};
 ghost use Rattle.geometry.specs.Places.{stripes as stripe_count};
 ghost use Rattle.array_model.specs.Meaning.{geometry};
-ghost use Rattle.array_model.specs.Calls.{Steps, Takes, taken as TakenOf};
+ghost use Rattle.array_model.specs.Calls.{Steps, Takes, taken as taken_of};
 ghost use Rattle.array.specs.Sound.{means, LogOn, Sized, Bounded, Sound};
 
 use crate::array::Array;
@@ -22,7 +22,7 @@ use member_store::MemberStore;
 // that a number holds.
 fn taken(progress: Progress, stripe: usize, mended: bool) -> Progress
     requires { stripe < 16777216 }
-    ensures { Bounded progress → result ≡ TakenOf progress stripe (not mended) }
+    ensures { Bounded progress → result ≡ taken_of progress stripe (not mended) }
 {
     let read = progress.read.saturating_add(1);
     if mended {

@@ -20,7 +20,7 @@ twice (Resync p) = refl
 twice Ready = refl
 twice (Short d) = refl
 
--- a give_up after a give_up
+-- a give-up after a give-up
 pub again : (s t u : Meaning) → GivesUp s t → GivesUp t u → GivesUp s u
 again s t u d e =
     let f : array (given_up t.state) empty t.members t.log ≡ array (given_up (given_up s.state)) empty s.members s.log = ap (λ x. array (given_up x.state) empty x.members x.log) d in

@@ -17,7 +17,7 @@ pub record Meaning : Type 0 where
   pub others : List Standing
   pub spent : Bool
   pub fits : List ℕ → Bool
-  -- the counts of a store on which power_on is refused
+  -- the counts of a store on which power-on is refused
   pub too_small : Option (ℕ × ℕ)
 
 -- c may stand after a cut

@@ -115,7 +115,7 @@ module _ (s : Meaning) (b : Option (ℕ × Contents)) (mm cnt keep : ℕ) (em : 
       pub blank_all : present b ≡ true → (t : Meaning) → Completed (device.store (keep % mm) (keep / mm) zero_block ∷ device.barrier ∷ []) v t → Completed (blank_calls s.members s.blocks b) s t
       blank_all pr t h = completed_then firsts (device.barrier ∷ zero_standing s.members b) s u t done_firsts (v, k, subst (λ (os : List DeviceCall). Completed os v t) (standing_list s.members mm cnt keep b em pr ek) h)
 
--- ---- the reads of a power_on
+-- ---- the reads of a power-on
 
 pub reads_same : (s : Meaning) (mm cnt : ℕ) → mm ≡ s.members → cnt ≡ slots s.members s.blocks → for_each (read_slot mm) cnt ≡ for_each (read_slot s.members) (slots s.members s.blocks)
 reads_same s mm cnt em ec = ap (λ (m : ℕ). for_each (read_slot m) cnt) em ∙ ap (for_each (read_slot s.members)) ec

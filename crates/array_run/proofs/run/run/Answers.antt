@@ -20,9 +20,9 @@ loop-call-init g c =
 
 pub returns-in-Err : goal.returns-in-Err
 returns-in-Err g c =
+    let few : c.loop-call.call-index ≤ length c.args.calls.now = omega arith in
     let m = means g.S.MemberStore.meaning g.G.IntentLog.meaning in
     let n = c.loop-call.call-index in
-    let few : c.loop-call.call-index ≤ length c.args.calls.now = omega arith in
     record {
       enough = λ p r a. absurd (omega (arith, a, c.in-Err.ensures.full, c.loop-call.invariant.3, c.loop-call.invariant.4, c.loop-call-test.true));
       reaches = λ r a. absurd (omega (arith, a, c.in-Err.ensures.full, c.loop-call.invariant.3, c.loop-call.invariant.4, c.loop-call-test.true));
@@ -36,9 +36,9 @@ returns-in-Err g c =
 
 pub returns-in-Err-make : goal.returns-in-Err-make
 returns-in-Err-make g c =
+    let few : c.loop-call.call-index ≤ length c.args.calls.now = omega arith in
     let m = means g.S.MemberStore.meaning g.G.IntentLog.meaning in
     let n = c.loop-call.call-index in
-    let few : c.loop-call.call-index ≤ length c.args.calls.now = omega arith in
     record {
       enough = λ p r a. c.in-Err-make.ensures.enough (unbuffered_at c.args.calls.now n PowerOn c.loop-call-test.true p)
           (room_left (length c.args.calls.now) n c.args.tokens.now c.loop-call.tokens c.loop-call-test.true r c.loop-call.invariant.2);
@@ -81,10 +81,10 @@ loop-call-preserved g c =
 
 pub returns : goal.returns
 returns g c =
-    let m = means g.S.MemberStore.meaning g.G.IntentLog.meaning in
-    let n = c.loop-call.call-index in
     let few : c.loop-call.call-index ≤ length c.args.calls.now = omega arith in
     let all : c.loop-call.call-index ≡ length c.args.calls.now = omega arith in
+    let m = means g.S.MemberStore.meaning g.G.IntentLog.meaning in
+    let n = c.loop-call.call-index in
     record {
       enough = λ p r a. refl;
       reaches = λ r a. omega (arith, before_most c.args.calls.now, c.loop-call.invariant.4, all);
