@@ -15,7 +15,7 @@ use array_model::refusal::ArrayRefusal;
 use array_model::state::State;
 use array_work::read::read_without;
 use geometry::layout::Layout;
-use geometry::place::Address;
+use block_address::Address;
 use geometry::shape::Shape;
 use intent_log::IntentLog;
 use member_store::MemberStore;

@@ -16,7 +16,7 @@ use crate::refusal::device_refusal;
 use array_model::refusal::ArrayRefusal;
 use cache::caches::Caches;
 use geometry::layout::Layout;
-use geometry::place::Address;
+use block_address::Address;
 use geometry::shape::Shape;
 use member_store::{BLOCK_BYTES, MemberStore};
 use stripe_work::reconstruct::reconstruct_block;
@@ -43,7 +43,7 @@ fn read_held<S: MemberStore, L: Layout>(
     ensures { Fetched (read_calls (sized L.Layout.arrangement shape) block) (held (sized L.Layout.arrangement shape) (S.MemberStore.meaning store.old) block) into.old into.new (S.MemberStore.meaning store.old) result (S.MemberStore.meaning store.new) }
 {
     let at = block_address(layout, shape, block);
-    match store.read(at.member, at.block, into) {
+    match store.read(at, into) {
         Ok(()) => Ok(()),
         Err(e) => Err(ArrayRefusal::Members(e)),
     }

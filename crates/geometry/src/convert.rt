@@ -5,8 +5,9 @@ ghost use Rattle.geometry.specs.Places.{located, numbered, data_blocks, stripes 
 ghost use Rattle.geometry.specs.declared.place.Content.TheVariants.{Data, Parity as ParityOf};
 
 use crate::layout::Layout;
-use crate::place::{Address, Content, Location};
+use crate::place::{Content, Location};
 use crate::shape::Shape;
+use block_address::Address;
 
 impl Shape {
     /// How many stripes the array has.

@@ -1,19 +1,9 @@
 // What a refusal says to a user.
 ghost use Rattle.std.specs.Prelude.{Some};
-ghost use Rattle.member_store.specs.Text.{place_text, text};
+ghost use Rattle.member_store.specs.Text.{text};
 
-use super::refusal::{Place, Refusal};
+use super::refusal::Refusal;
 use std::fmt;
-
-impl fmt::Display for Place {
-    ghost output = { λ p. Some (place_text p) };
-
-    fn fmt<W: fmt::Write>(&self, f: &mut fmt::Formatter<W>) -> fmt::Result {
-        let member = self.member;
-        let block = self.block;
-        write!(f, "block {block} of member {member}")
-    }
-}
 
 impl fmt::Display for Refusal {
     ghost output = { λ e. Some (text e) };

@@ -12,7 +12,8 @@ use super::current::CurrentBytes;
 use array::array::Array;
 use array_model::state::State;
 use geometry::layout::Layout;
-use geometry::place::{Address, Location};
+use block_address::Address;
+use geometry::place::Location;
 use geometry::shape::Shape;
 use intent_log::IntentLog;
 use member_store::MemberStore;
@@ -64,7 +65,7 @@ fn copy_data<S: CurrentBytes, L: Layout>(
 {
     for position in 0..shape.members().positions() {
         let at = data_place(layout, shape, stripe, position);
-        store.copy_current(at.member, at.block, &mut rows[position]);
+        store.copy_current(at, &mut rows[position]);
     }
 }
 
@@ -88,7 +89,7 @@ fn is_right<S: CurrentBytes, L: Layout>(store: &S, layout: &L, shape: Shape, str
     let sum = parity_of_rows(&rows, shape.members().positions());
     let at = parity_place(layout, shape, stripe);
     let mut found = [0u8; 512];
-    store.copy_current(at.member, at.block, &mut found);
+    store.copy_current(at, &mut found);
     found == sum
 }
 

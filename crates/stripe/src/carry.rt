@@ -1,6 +1,7 @@
 // A file over the members of an array and back: laid out with parity, one member forgotten and worked out again.
 use geometry::layout::Layout;
-use geometry::place::{Address, Location};
+use block_address::Address;
+use geometry::place::Location;
 use geometry::shape::Shape;
 use member_store::MemberStore;
 use stripe_work::data::{CachedBlocks, MOST_POSITIONS};
@@ -65,7 +66,7 @@ pub fn lay_out<S: MemberStore, L: Layout>(
 /// Overwrites all blocks of a member.
 pub fn forget<S: MemberStore>(store: &mut S, member: usize) -> Result<(), StripeRefusal> {
     for block in 0..store.blocks() {
-        if let Err(e) = store.store(member, block, &FORGOTTEN) {
+        if let Err(e) = store.store(Address { member, block }, &FORGOTTEN) {
             return Err(StripeRefusal::Device(e));
         }
     }
@@ -86,7 +87,7 @@ pub fn work_out<S: MemberStore, L: Layout>(
         if let Err(e) = reconstruct_block(store, layout, shape, at, &mut bytes) {
             return Err(e);
         }
-        if let Err(e) = store.store(member, block, &bytes) {
+        if let Err(e) = store.store(at, &bytes) {
             return Err(StripeRefusal::Device(e));
         }
         count = count.saturating_add(1);
@@ -106,7 +107,7 @@ fn holds_block<S: MemberStore, L: Layout>(
         return Ok(false);
     };
     let mut bytes = [0u8; 512];
-    if let Err(e) = store.read(at.member, at.block, &mut bytes) {
+    if let Err(e) = store.read(at, &mut bytes) {
         return Err(StripeRefusal::Device(e));
     }
     Ok(bytes == file_block(file, block))

@@ -1,6 +1,7 @@
 // What was done, as text.
 use geometry::layout::Layout;
-use geometry::place::{Address, Content};
+use block_address::Address;
+use geometry::place::Content;
 use geometry::shape::{MOST_MEMBERS, Shape};
 use std::fmt;
 

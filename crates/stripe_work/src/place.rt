@@ -4,7 +4,8 @@ ghost use Rattle.geometry.specs.Counts.{members_of, blocks_of};
 ghost use Rattle.geometry.specs.Places.{stripes as stripe_count, block_of_stripe};
 
 use geometry::layout::Layout;
-use geometry::place::{Address, Location};
+use block_address::Address;
+use geometry::place::Location;
 use geometry::shape::Shape;
 
 // The member and the block on it of the data at a position.

@@ -11,7 +11,7 @@ use crate::block::read_block;
 use crate::data::MOST_POSITIONS;
 use crate::refusal::StripeRefusal;
 use geometry::layout::Layout;
-use geometry::place::Address;
+use block_address::Address;
 use geometry::shape::Shape;
 use member_store::MemberStore;
 use member_store::refusal::Refusal;
