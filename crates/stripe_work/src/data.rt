@@ -9,6 +9,7 @@ ghost use Rattle.stripe_work.specs.Work.{cached_in, held_in, data_reads, data_st
 
 use crate::block::{read_block, store_block};
 use crate::place::data_place;
+use geometry::array_geometry::Geometry;
 use geometry::layout::Layout;
 use geometry::shape::Shape;
 use member_store::MemberStore;
@@ -37,21 +38,20 @@ pub fn cached_blocks(held: &[bool; 8], rows: &[[u8; 512]; 8]) -> CachedBlocks
 // Puts all data of a stripe into rows, by position: the cached blocks, and the others as they are read.
 pub(super) fn read_data<S: MemberStore, L: Layout>(
     store: &mut S,
-    layout: &L,
-    shape: Shape,
+    geometry: &Geometry<L>,
     stripe: usize,
     cached: &CachedBlocks,
     rows: &mut [[u8; 512]; 7],
 ) -> Result<(), Refusal>
-    requires { stripe < stripe_count (blocks_of shape) }
-    ensures calls { Performs (data_reads (stripe_at L.Layout.arrangement (members_of shape) stripe) (cached_in cached.now)) (S.MemberStore.meaning store.old) result (S.MemberStore.meaning store.new) }
-    ensures rows { OnOk result (take (members_of shape - 1) rows.new ≡ merged_data (stripe_at L.Layout.arrangement (members_of shape) stripe) (cached_in cached.now) (S.MemberStore.meaning store.old)) }
+    requires { stripe < stripe_count (blocks_of geometry.now.shape) }
+    ensures calls { Performs (data_reads (stripe_at L.Layout.arrangement (members_of geometry.now.shape) stripe) (cached_in cached.now)) (S.MemberStore.meaning store.old) result (S.MemberStore.meaning store.new) }
+    ensures rows { OnOk result (take (members_of geometry.now.shape - 1) rows.new ≡ merged_data (stripe_at L.Layout.arrangement (members_of geometry.now.shape) stripe) (cached_in cached.now) (S.MemberStore.meaning store.old)) }
 {
     for position in 0..shape.members().positions() {
         match cached[position] {
             Some(block) => rows[position] = block,
             None => {
-                let at = data_place(layout, shape, stripe, position);
+                let at = data_place(geometry, stripe, position);
                 if let Err(e) = read_block(store, at, &mut rows[position]) {
                     return Err(e);
                 }
@@ -74,17 +74,16 @@ pub(super) fn parity_of_rows(rows: &[[u8; 512]; 7], count: usize) -> [u8; 512]
 // Stores the cached blocks of a stripe, by position.
 pub(super) fn store_cached<S: MemberStore, L: Layout>(
     store: &mut S,
-    layout: &L,
-    shape: Shape,
+    geometry: &Geometry<L>,
     stripe: usize,
     cached: &CachedBlocks,
 ) -> Result<(), Refusal>
-    requires { stripe < stripe_count (blocks_of shape) }
-    ensures { Performs (data_stores (stripe_at L.Layout.arrangement (members_of shape) stripe) (cached_in cached.now)) (S.MemberStore.meaning store.old) result (S.MemberStore.meaning store.new) }
+    requires { stripe < stripe_count (blocks_of geometry.now.shape) }
+    ensures { Performs (data_stores (stripe_at L.Layout.arrangement (members_of geometry.now.shape) stripe) (cached_in cached.now)) (S.MemberStore.meaning store.old) result (S.MemberStore.meaning store.new) }
 {
     for position in 0..shape.members().positions() {
         if let Some(block) = cached[position] {
-            let at = data_place(layout, shape, stripe, position);
+            let at = data_place(geometry, stripe, position);
             if let Err(e) = store_block(store, at, &block) {
                 return Err(e);
             }

@@ -11,6 +11,7 @@ use crate::block::store_block;
 use crate::data::{CachedBlocks, MOST_POSITIONS, parity_of_rows, read_data, store_cached};
 use crate::place::parity_place;
 use crate::refusal::StripeRefusal;
+use geometry::array_geometry::Geometry;
 use geometry::layout::Layout;
 use geometry::shape::Shape;
 use member_store::MemberStore;
@@ -19,23 +20,22 @@ use member_store::refusal::Refusal;
 // The work on a stripe that the array has.
 fn store_stripe<S: MemberStore, L: Layout>(
     store: &mut S,
-    layout: &L,
-    shape: Shape,
+    geometry: &Geometry<L>,
     stripe: usize,
     cached: &CachedBlocks,
 ) -> Result<(), Refusal>
-    requires { stripe < stripe_count (blocks_of shape) }
-    ensures { Performs (destage_calls (stripe_at L.Layout.arrangement (members_of shape) stripe) (cached_in cached.now) (S.MemberStore.meaning store.old)) (S.MemberStore.meaning store.old) result (S.MemberStore.meaning store.new) }
+    requires { stripe < stripe_count (blocks_of geometry.now.shape) }
+    ensures { Performs (destage_calls (stripe_at L.Layout.arrangement (members_of geometry.now.shape) stripe) (cached_in cached.now) (S.MemberStore.meaning store.old)) (S.MemberStore.meaning store.old) result (S.MemberStore.meaning store.new) }
 {
     let mut rows = [[0u8; 512]; MOST_POSITIONS];
-    if let Err(e) = read_data(store, layout, shape, stripe, cached, &mut rows) {
+    if let Err(e) = read_data(store, geometry, stripe, cached, &mut rows) {
         return Err(e);
     }
-    let sum = parity_of_rows(&rows, shape.members().positions());
-    if let Err(e) = store_cached(store, layout, shape, stripe, cached) {
+    let sum = parity_of_rows(&rows, geometry.shape.members().positions());
+    if let Err(e) = store_cached(store, geometry, stripe, cached) {
         return Err(e);
     }
-    let at = parity_place(layout, shape, stripe);
+    let at = parity_place(geometry, stripe);
     store_block(store, at, &sum)
 }
 
@@ -43,17 +43,16 @@ fn store_stripe<S: MemberStore, L: Layout>(
 /// then the parity of all data so merged. Cached blocks at positions that the stripe lacks are ignored.
 pub fn destage_stripe<S: MemberStore, L: Layout>(
     store: &mut S,
-    layout: &L,
-    shape: Shape,
+    geometry: &Geometry<L>,
     stripe: usize,
     cached: &CachedBlocks,
 ) -> Result<(), StripeRefusal>
-    ensures { Destages L.Layout.arrangement (members_of shape) (blocks_of shape) stripe (cached_in cached.now) (S.MemberStore.meaning store.old) result (S.MemberStore.meaning store.new) }
+    ensures { Destages L.Layout.arrangement (members_of geometry.now.shape) (blocks_of geometry.now.shape) stripe (cached_in cached.now) (S.MemberStore.meaning store.old) result (S.MemberStore.meaning store.new) }
 {
-    if stripe >= shape.stripes() {
+    if stripe >= geometry.shape.stripes() {
         return Err(StripeRefusal::NoStripe(stripe));
     }
-    match store_stripe(store, layout, shape, stripe, cached) {
+    match store_stripe(store, geometry, stripe, cached) {
         Ok(()) => Ok(()),
         Err(e) => Err(StripeRefusal::Device(e)),
     }

@@ -3,6 +3,7 @@ ghost use Rattle.std.specs.Prelude.{◌≡◌, ℕ, ◌-◌, ◌<◌};
 ghost use Rattle.geometry.specs.Counts.{members_of, blocks_of};
 ghost use Rattle.geometry.specs.Places.{stripes as stripe_count, block_of_stripe};
 
+use geometry::array_geometry::Geometry;
 use geometry::layout::Layout;
 use block_address::Address;
 use geometry::place::Location;
@@ -10,25 +11,23 @@ use geometry::shape::Shape;
 
 // The member and the block on it of the data at a position.
 pub(super) fn data_place<L: Layout>(
-    layout: &L,
-    shape: Shape,
+    geometry: &Geometry<L>,
     stripe: usize,
     position: usize,
 ) -> Address
-    requires { (stripe < stripe_count (blocks_of shape)) × (position < members_of shape - 1) }
-    ensures member { result.member ≡ (L.Layout.arrangement (members_of shape) stripe).member position }
+    requires { (stripe < stripe_count (blocks_of geometry.now.shape)) × (position < members_of geometry.now.shape - 1) }
+    ensures member { result.member ≡ (L.Layout.arrangement (members_of geometry.now.shape) stripe).member position }
     ensures block { result.block ≡ block_of_stripe stripe }
 {
-    shape
-        .position_address(layout, Location { stripe, position })
+    geometry.position_address(Location { stripe, position })
         .unwrap()
 }
 
 // The member and the block on it of the parity.
-pub(super) fn parity_place<L: Layout>(layout: &L, shape: Shape, stripe: usize) -> Address
-    requires { stripe < stripe_count (blocks_of shape) }
-    ensures member { result.member ≡ (L.Layout.arrangement (members_of shape) stripe).parity }
+pub(super) fn parity_place<L: Layout>(geometry: &Geometry<L>, stripe: usize) -> Address
+    requires { stripe < stripe_count (blocks_of geometry.now.shape) }
+    ensures member { result.member ≡ (L.Layout.arrangement (members_of geometry.now.shape) stripe).parity }
     ensures block { result.block ≡ block_of_stripe stripe }
 {
-    shape.parity_address(layout, stripe).unwrap()
+    geometry.parity_address(stripe).unwrap()
 }

@@ -10,6 +10,7 @@ ghost use Rattle.stripe_work.specs.Promises.{Reconstructs};
 use crate::block::read_block;
 use crate::data::MOST_POSITIONS;
 use crate::refusal::StripeRefusal;
+use geometry::array_geometry::Geometry;
 use geometry::layout::Layout;
 use block_address::Address;
 use geometry::shape::Shape;
@@ -46,18 +47,17 @@ fn read_others<S: MemberStore>(
 /// them by member and not touching the member of the address. A refusal leaves the buffer as it was.
 pub fn reconstruct_block<S: MemberStore, L: Layout>(
     store: &mut S,
-    layout: &L,
-    shape: Shape,
+    geometry: &Geometry<L>,
     absent: Address,
     into: &mut [u8; 512],
 ) -> Result<(), StripeRefusal>
-    ensures { Reconstructs L.Layout.arrangement (members_of shape) (blocks_of shape) absent into.old (S.MemberStore.meaning store.old) result into.new (S.MemberStore.meaning store.new) }
+    ensures { Reconstructs L.Layout.arrangement (members_of geometry.now.shape) (blocks_of geometry.now.shape) absent into.old (S.MemberStore.meaning store.old) result into.new (S.MemberStore.meaning store.new) }
 {
-    let members = shape.members().get();
+    let members = geometry.shape.members().get();
     if absent.member >= members {
         return Err(StripeRefusal::NoMember(absent.member));
     }
-    if shape.content(layout, absent).is_none() {
+    if geometry.content(absent).is_none() {
         return Err(StripeRefusal::NoBlock(absent.block));
     }
     let mut rows = [[0u8; 512]; MOST_POSITIONS];
