@@ -13,5 +13,5 @@ returns-in-None g c =
     let none = c.in-None.ensures in
     record {
       means = reads_under (vec_items w.held) s (g.S.MemberStore.meaning c.read.new.self) m b c.args.into.now c.read.new.into c.read.result (current_below (vec_items w.held) s m b none) c.read.ensures.means;
-      own = reads_below g.S.MemberStore.meaning m b c.args.into.now c.read.result _ (vec_items w.held) (vec_items w.held) w.below c.read.new.self (sym c.in_default.ensures) none refl (c.read.ensures.means, c.read.ensures.own);
+      own = reads_below g.S.MemberStore.meaning m b c.args.into.now c.read.result _ (vec_items w.held) (vec_items w.held) w.below c.read.new.self c.in_ok-check_access.ensures none refl (c.read.ensures.means, c.read.ensures.own);
     }
