@@ -16,8 +16,8 @@ returns g c =
     let held = vec_items w.held in
     let on : (mean w.below).on ≡ true = search rules in
     let passed : barrier_checks (buffered held (mean w.below)) ≡ None = simp on in
-    let told = c.in_default.ensures in
+    let told = c.in_ok-pass_all.ensures in
     record {
-      means = rw (same ∙ told.none) (bars_then (buffered held (mean w.below)) (mean u.below) (mean t) c.bar_below.result on told.means c.bar_below.ensures.means);
+      means = rw (same ∙ told.none) (bars_then (buffered held (mean w.below)) (mean u.below) (mean t) c.bar_below.result on (rw told.none at told.means) c.bar_below.ensures.means);
       own = bars_below mean g.S.MemberStore.storing g.S.MemberStore.barring c.bar_below.result held (vec_items v.held) w.below u.below t passed (rw (← same) at told.passes) c.bar_below.ensures.means c.bar_below.ensures.own;
     }
