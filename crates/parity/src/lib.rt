@@ -42,8 +42,7 @@ fn sum_into(blocks: &[[u8; 512]], into: &mut [u8])
     requires { length into.old ≡ 512 }
     ensures { into.new ≡ parity_of blocks.now }
 {
-    for c in 0..8 {
-        let at = LANES * c;
+    for at in (0..BLOCK_BYTES).step_by(LANES) {
         column(blocks, at).copy_to_slice(&mut into[at..]);
     }
 }
