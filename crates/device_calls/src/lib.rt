@@ -37,8 +37,6 @@ pub fn store_and_bar<S: MemberStore>(
 ) -> Result<(), Refusal>
     ensures { Performs (storing at.member at.block bytes.now ∷ barring ∷ []) (S.MemberStore.meaning store.old) result (S.MemberStore.meaning store.new) }
 {
-    if let Err(e) = store_block(store, at, bytes) {
-        return Err(e);
-    }
+    store_block(store, at, bytes)?;
     store.barrier()
 }
