@@ -14,8 +14,8 @@ use block_address::Address;
 use device_calls::store_and_bar;
 use flag::{FlagLog, FlagRecord};
 use intent_log::refusal::LogRefusal;
-use intent_log::{IntentLog, is_list};
 use intent_log::state::LogState;
+use intent_log::{IntentLog, is_list};
 use member_store::{BLOCK_BYTES, MemberStore};
 use zero_bytes::all_zero;
 

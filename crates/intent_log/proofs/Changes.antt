@@ -1,30 +1,11 @@
 -- What a change comes to, accepted and refused; and what may stand, by a list.
-use Rattle.std.proofs.Common.{◌≡◌, ℕ, Bool, true, false, cond, List, [], ◌∷◌, length, map, IfOk, IsErrAnd, Some, None, Ok, Err, Option, Result, sym, refl, ap, ◌∙◌, inl, inr}
-use Rattle.std.proofs.lemmas.Option.{none-some}
+use Rattle.std.proofs.Common.{◌≡◌, List, [], ◌∷◌, map, IfOk, IsErrAnd, Some, None, Ok, Err, Option, Result, refl, ap, inl, inr}
 use Rattle.member_store.specs.Meaning.{Meaning, In}
-use Rattle.member_store.specs.declared.refusal.Refusal.{Refusal}
 use Rattle.device_calls.specs.Lists.{DeviceCall}
 use Rattle.intent_log.specs.Refusals.{PowerWent}
-use Rattle.intent_log.specs.Meaning.{Meaning as LogMeaning, listed}
-use Rattle.intent_log.specs.Checks.{list_checks}
-use Rattle.intent_log.specs.Calls.{Refused, mark_checks, fresh_checks}
+use Rattle.intent_log.specs.Calls.{Refused}
 use Rattle.intent_log.specs.Devices.{Makes, MakesChange}
 use Rattle.intent_log.specs.declared.refusal.LogRefusal.{LogRefusal}
-use Rattle.intent_log.specs.declared.refusal.LogRefusal.TheVariants.{Store, Off, NoRecord, WrongList}
-
--- a list that is refused, whatever else would be checked
-list_refused : (on stands fine : Bool) (later : Option LogRefusal) (d e : LogRefusal) → cond on (cond stands (cond fine None (Some d)) (Some NoRecord)) (Some Off) ≡ Some e → cond on (cond stands (cond fine later (Some d)) (Some NoRecord)) (Some Off) ≡ Some e
-list_refused false stands fine later d e h = h
-list_refused true false fine later d e h = h
-list_refused true true false later d e h = h
-list_refused true true true later d e h = absurd (none-some e h)
-
-module _ (l : LogMeaning) (w : List ℕ) (e : LogRefusal) (h : list_checks l.on l.standing.stands w ≡ Some e) where
-  pub mark_refused : mark_checks l w ≡ Some e
-  mark_refused = list_refused l.on l.standing.stands (listed w) _ (WrongList (length w)) e h
-
-  pub fresh_refused : fresh_checks l w ≡ Some e
-  fresh_refused = list_refused l.on l.standing.stands (listed w) _ (WrongList (length w)) e h
 
 -- a refusal that the checks name
 pub refused_by : (c : Option LogRefusal) (e : LogRefusal) (same cut : Type 0) → c ≡ Some e → same → Refused c e same cut
@@ -34,12 +15,12 @@ refused_by c e same cut n h = rw n (refl, h)
 pub refused_went : (c : Option LogRefusal) (e : LogRefusal) (same cut : Type 0) → c ≡ None → PowerWent e → cut → Refused c e same cut
 refused_went c e same cut n w h = rw n (w, h)
 
-module _ {U : Type 0} where
-  -- the refusal of a device call, handed up
-  pub handed_up : (r : Result U LogRefusal) (d : Refusal) → IsErrAnd r (λ e. e ≡ Store d) → r ≡ Err (Store d)
-  handed_up (Ok x) d h = elim h [ ]
-  handed_up (Err e) d h = ap Err h
+-- what `?` hands up, where the error that it makes is known
+pub handed_up : {T E : Type 0} (r : Result T E) (e : E) → IsErrAnd r (λ d. d ≡ e) → r ≡ Err e
+handed_up (Ok x) e h = elim h [ ]
+handed_up (Err d) e h = ap Err h
 
+module _ {U : Type 0} where
   pub makes_passed : (checks : Option LogRefusal) (calls : List DeviceCall) (after : Type 0) (s : Meaning) (r : Result U LogRefusal) (t : Meaning) → checks ≡ None → Makes calls s r t → IfOk r (λ _. after) → MakesChange checks calls after s r t
   makes_passed checks calls after s r t n h k = record { made_calls = rw n h; stands = k }
 

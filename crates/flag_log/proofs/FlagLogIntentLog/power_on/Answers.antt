@@ -2,6 +2,7 @@ use Rattle.std.proofs.Common.{false, true, Result, sym, refl, subst}
 use Rattle.intent_log.specs.Meaning.{MayStand}
 use Rattle.intent_log.specs.Calls.{ChangeDone, PowersOn}
 use Rattle.intent_log.specs.declared.refusal.LogRefusal.{LogRefusal}
+use Rattle.intent_log.specs.declared.refusal.LogRefusal.TheVariants.{Store}
 use Rattle.intent_log.proofs.Changes.{handed_up}
 use Rattle.flag_log.specs.Flag.{flag, Steady}
 use Rattle.flag_log.specs.Puts.{first_block}
@@ -17,7 +18,7 @@ returns-in_err-read-clause-means g c =
     let u = g.S.MemberStore.meaning end in
     let e = c.in_err-read.field-0.0 in
     let at = first_block s (g.met.S.MemberStore.counts me.store) in
-    subst (λ (r : Result (Unit {0}) LogRefusal). PowersOn (flag me.awake s) r (flag false u)) (sym (handed_up c.from_residual.result e c.from_residual.ensures.1))
+    subst (λ (r : Result (Unit {0}) LogRefusal). PowersOn (flag me.awake s) r (flag false u)) (sym (handed_up c.from_residual.result (Store e) c.from_residual.ensures.1))
     (power_cut s t me.awake at c.power_on.ensures.means u false e _ c.read.new.into refl refl (g.met.S.MemberStore.stands end) c.in_err-read.ensures.means)
 
 pub returns-clause-sound : goal.returns-clause-sound

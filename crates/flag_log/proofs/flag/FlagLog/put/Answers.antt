@@ -1,7 +1,8 @@
-use Rattle.std.proofs.Common.{ℕ, List, [], ◌∷◌, Ok, Err, Result, sym, refl, subst}
+use Rattle.std.proofs.Common.{ℕ, List, [], ◌∷◌, Result, sym, refl, subst}
 use Rattle.device_calls.specs.Lists as device
 use Rattle.device_calls.specs.Lists.{Completed, Stopped}
 use Rattle.intent_log.specs.declared.refusal.LogRefusal.{LogRefusal}
+use Rattle.intent_log.specs.declared.refusal.LogRefusal.TheVariants.{Store}
 use Rattle.intent_log.proofs.Changes.{handed_up}
 use Rattle.flag_log.specs.Puts.{Put, first_block}
 use Rattle.flag_log.proofs.flag.FlagLog.put.Goals as goal
@@ -13,7 +14,7 @@ returns-in_err-store_and_bar g c =
     let s = g.S.MemberStore.meaning me.store in
     let t = g.S.MemberStore.meaning end in
     let e = c.in_err-store_and_bar.field-0.0 in
-    subst (λ (r : Result (Unit {0}) LogRefusal). Put s me.awake me.standing c.args.next r t me.awake me.standing) (sym (handed_up c.from_residual.result e c.from_residual.ensures.1)) (record {
+    subst (λ (r : Result (Unit {0}) LogRefusal). Put s me.awake me.standing c.args.next r t me.awake me.standing) (sym (handed_up c.from_residual.result (Store e) c.from_residual.ensures.1)) (record {
       at = first_block s (g.met.S.MemberStore.counts me.store);
       still = first_block t (g.met.S.MemberStore.counts end);
       law = g.met.S.MemberStore.stands end;
