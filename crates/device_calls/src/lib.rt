@@ -12,11 +12,9 @@ use member_store::{BLOCK_BYTES, MemberStore};
 
 /// The laws of lists of device calls, proved: how two lists one after the other are performed, and what a list leaves of
 /// power, counts, current bytes and versions, whether it is completed or stopped.
-pub fn laws_hold() -> u8
+pub fn laws_hold()
     ensures { Laws }
-{
-    0
-}
+{}
 
 // Stores a block.
 fn store_block<S: MemberStore>(
@@ -37,8 +35,6 @@ pub fn store_and_bar<S: MemberStore>(
 ) -> Result<(), Refusal>
     ensures { Performs (storing at.member at.block bytes.now ∷ barring ∷ []) (S.MemberStore.meaning store.old) result (S.MemberStore.meaning store.new) }
 {
-    if let Err(e) = store_block(store, at, bytes) {
-        return Err(e);
-    }
+    store_block(store, at, bytes)?;
     store.barrier()
 }

@@ -9,7 +9,7 @@ ghost use Rattle.std.proofs.Common.{rules};
 
 use block_address::Address;
 use member_store::refusal::Refusal;
-use member_store::{MemberStore, check_access};
+use member_store::{MemberStore};
 
 /// A store that loses power when its setting is used up; without a setting it never does.
 #[derive(Drop)]
@@ -118,7 +118,7 @@ impl<S: MemberStore> MemberStore for Fuse<S> {
     }
 
     fn store(&mut self, at: Address, bytes: &[u8]) -> Result<(), Refusal> {
-        check_access(self, at, bytes.len())?;
+        self.check_access(at, bytes.len())?;
         if self.blows() {
             return Err(Refusal::PowerOff(Some(at)));
         }

@@ -13,7 +13,7 @@ pub mod memory;
 
 use block_address::Address;
 use member_store::refusal::Refusal;
-use member_store::{BLOCK_BYTES, MemberStore, check_access};
+use member_store::{BLOCK_BYTES, MemberStore};
 use memory::{BadCounts, MemoryStore};
 
 // The number of a refused making.
@@ -136,14 +136,14 @@ impl MemberStore for MemoryStore {
     }
 
     fn read(&mut self, at: Address, into: &mut [u8]) -> Result<(), Refusal> {
-        check_access(self, at, into.len())?;
+        self.check_access(at, into.len())?;
         let start = self.offset(at);
         into.copy_from_slice(&self.bytes[start..start + BLOCK_BYTES]);
         Ok(())
     }
 
     fn store(&mut self, at: Address, bytes: &[u8]) -> Result<(), Refusal> {
-        check_access(self, at, bytes.len())?;
+        self.check_access(at, bytes.len())?;
         self.put(at, bytes);
         Ok(())
     }

@@ -18,7 +18,7 @@ use block_address::Address;
 use buffer::WriteBuffer;
 use held::HeldStore;
 use member_store::refusal::Refusal;
-use member_store::{BLOCK_BYTES, MemberStore, check_access};
+use member_store::{BLOCK_BYTES, MemberStore};
 use std::alloc::Global;
 
 /// How many stores are held at most.
@@ -191,7 +191,7 @@ impl<S: MemberStore> MemberStore for WriteBuffer<S> {
     }
 
     fn read(&mut self, at: Address, into: &mut [u8]) -> Result<(), Refusal> {
-        check_access(self, at, into.len())?;
+        self.check_access(at, into.len())?;
         match self.newest(at) {
             Some(i) => {
                 into.copy_from_slice(&self.held[i].bytes);
@@ -202,7 +202,7 @@ impl<S: MemberStore> MemberStore for WriteBuffer<S> {
     }
 
     fn store(&mut self, at: Address, bytes: &[u8]) -> Result<(), Refusal> {
-        check_access(self, at, bytes.len())?;
+        self.check_access(at, bytes.len())?;
         if let Some(e) = self.make_room() {
             return Err(e);
         }
