@@ -10,6 +10,7 @@ use crate::shape::Shape;
 use block_address::Address;
 
 /// The counts of an array and its layout: where everything lies on the members.
+#[derive_where(Clone, Copy)]
 pub struct Geometry<'a, L> {
     pub layout: &'a L,
     pub shape: Shape,

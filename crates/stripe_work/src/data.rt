@@ -30,8 +30,8 @@ pub(super) fn read_data<S: MemberStore, L: Layout>(
     cached: &CachedBlocks,
     rows: &mut [Block; MOST_POSITIONS],
 ) -> Result<(), Refusal>
-    ensures calls { Performs (data_reads (stripe_at L.Layout.arrangement (members_of stripe.now.geometry.now.shape) stripe.now.number) (cached_in cached.now)) (S.MemberStore.meaning store.old) result (S.MemberStore.meaning store.new) }
-    ensures rows { OnOk result (take (members_of stripe.now.geometry.now.shape - 1) rows.new ≡ merged_data (stripe_at L.Layout.arrangement (members_of stripe.now.geometry.now.shape) stripe.now.number) (cached_in cached.now) (S.MemberStore.meaning store.old)) }
+    ensures calls { Performs (data_reads (stripe_at L.Layout.arrangement (members_of stripe.now.geometry.shape) stripe.now.number) (cached_in cached.now)) (S.MemberStore.meaning store.old) result (S.MemberStore.meaning store.new) }
+    ensures rows { OnOk result (take (members_of stripe.now.geometry.shape - 1) rows.new ≡ merged_data (stripe_at L.Layout.arrangement (members_of stripe.now.geometry.shape) stripe.now.number) (cached_in cached.now) (S.MemberStore.meaning store.old)) }
 {
     for position in 0..stripe.positions() {
         match cached[position] {
@@ -58,7 +58,7 @@ pub(super) fn store_cached<S: MemberStore, L: Layout>(
     stripe: &Stripe<L>,
     cached: &CachedBlocks,
 ) -> Result<(), Refusal>
-    ensures { Performs (data_stores (stripe_at L.Layout.arrangement (members_of stripe.now.geometry.now.shape) stripe.now.number) (cached_in cached.now)) (S.MemberStore.meaning store.old) result (S.MemberStore.meaning store.new) }
+    ensures { Performs (data_stores (stripe_at L.Layout.arrangement (members_of stripe.now.geometry.shape) stripe.now.number) (cached_in cached.now)) (S.MemberStore.meaning store.old) result (S.MemberStore.meaning store.new) }
 {
     for position in 0..stripe.positions() {
         if let Some(block) = &cached[position] {

@@ -21,7 +21,7 @@ fn store_stripe<S: MemberStore, L: Layout>(
     stripe: &Stripe<L>,
     cached: &CachedBlocks,
 ) -> Result<(), Refusal>
-    ensures { Performs (destage_calls (stripe_at L.Layout.arrangement (members_of stripe.now.geometry.now.shape) stripe.now.number) (cached_in cached.now) (S.MemberStore.meaning store.old)) (S.MemberStore.meaning store.old) result (S.MemberStore.meaning store.new) }
+    ensures { Performs (destage_calls (stripe_at L.Layout.arrangement (members_of stripe.now.geometry.shape) stripe.now.number) (cached_in cached.now) (S.MemberStore.meaning store.old)) (S.MemberStore.meaning store.old) result (S.MemberStore.meaning store.new) }
 {
     let mut rows = [[0; BLOCK_BYTES]; MOST_POSITIONS];
     read_data(store, stripe, cached, &mut rows)?;
@@ -40,6 +40,7 @@ pub fn destage_stripe<S: MemberStore, L: Layout>(
 ) -> Result<(), StripeRefusal>
     ensures { Destages L.Layout.arrangement (members_of geometry.now.shape) (blocks_of geometry.now.shape) stripe (cached_in cached.now) (S.MemberStore.meaning store.old) result (S.MemberStore.meaning store.new) }
 {
-    store_stripe(store, &Stripe::new(geometry, stripe)?, cached)?;
+    let stripe = Stripe::new(geometry, stripe)?;
+    store_stripe(store, &stripe, cached)?;
     Ok(())
 }

@@ -21,8 +21,8 @@ fn find_correction<S: MemberStore, L: Layout>(
     store: &mut S,
     stripe: &Stripe<L>,
 ) -> Result<Option<Block>, Refusal>
-    ensures calls { Performs (check_calls (stripe_at L.Layout.arrangement (members_of stripe.now.geometry.now.shape) stripe.now.number)) (S.MemberStore.meaning store.old) result (S.MemberStore.meaning store.new) }
-    ensures found { IfOk result (λ k. k ≡ cond (parity_right (stripe_at L.Layout.arrangement (members_of stripe.now.geometry.now.shape) stripe.now.number) (S.MemberStore.meaning store.old)) None (Some (parity_of (stripe_data (stripe_at L.Layout.arrangement (members_of stripe.now.geometry.now.shape) stripe.now.number) (S.MemberStore.meaning store.old))))) }
+    ensures calls { Performs (check_calls (stripe_at L.Layout.arrangement (members_of stripe.now.geometry.shape) stripe.now.number)) (S.MemberStore.meaning store.old) result (S.MemberStore.meaning store.new) }
+    ensures found { IfOk result (λ k. k ≡ cond (parity_right (stripe_at L.Layout.arrangement (members_of stripe.now.geometry.shape) stripe.now.number) (S.MemberStore.meaning store.old)) None (Some (parity_of (stripe_data (stripe_at L.Layout.arrangement (members_of stripe.now.geometry.shape) stripe.now.number) (S.MemberStore.meaning store.old))))) }
 {
     let mut rows = [[0; BLOCK_BYTES]; MOST_POSITIONS];
     read_data(store, stripe, &[None; MOST_POSITIONS], &mut rows)?;
@@ -40,7 +40,8 @@ pub fn check_stripe<S: MemberStore, L: Layout>(
 ) -> Result<bool, StripeRefusal>
     ensures { Checks L.Layout.arrangement (members_of geometry.now.shape) (blocks_of geometry.now.shape) stripe (S.MemberStore.meaning store.old) result (S.MemberStore.meaning store.new) }
 {
-    let correction = find_correction(store, &Stripe::new(geometry, stripe)?)?;
+    let stripe = Stripe::new(geometry, stripe)?;
+    let correction = find_correction(store, &stripe)?;
     Ok(correction.is_none())
 }
 
@@ -49,8 +50,8 @@ fn mend_stripe<S: MemberStore, L: Layout>(
     store: &mut S,
     stripe: &Stripe<L>,
 ) -> Result<bool, Refusal>
-    ensures calls { Performs (resync_calls (stripe_at L.Layout.arrangement (members_of stripe.now.geometry.now.shape) stripe.now.number) (S.MemberStore.meaning store.old)) (S.MemberStore.meaning store.old) result (S.MemberStore.meaning store.new) }
-    ensures told { IfOk result (λ mended. mended ≡ not (parity_right (stripe_at L.Layout.arrangement (members_of stripe.now.geometry.now.shape) stripe.now.number) (S.MemberStore.meaning store.old))) }
+    ensures calls { Performs (resync_calls (stripe_at L.Layout.arrangement (members_of stripe.now.geometry.shape) stripe.now.number) (S.MemberStore.meaning store.old)) (S.MemberStore.meaning store.old) result (S.MemberStore.meaning store.new) }
+    ensures told { IfOk result (λ mended. mended ≡ not (parity_right (stripe_at L.Layout.arrangement (members_of stripe.now.geometry.shape) stripe.now.number) (S.MemberStore.meaning store.old))) }
 {
     let Some(parity) = find_correction(store, stripe)? else {
         return Ok(false);
@@ -68,7 +69,8 @@ pub fn resync_stripe<S: MemberStore, L: Layout>(
 ) -> Result<bool, StripeRefusal>
     ensures { Resyncs L.Layout.arrangement (members_of geometry.now.shape) (blocks_of geometry.now.shape) stripe (S.MemberStore.meaning store.old) result (S.MemberStore.meaning store.new) }
 {
-    let mended = mend_stripe(store, &Stripe::new(geometry, stripe)?)?;
+    let stripe = Stripe::new(geometry, stripe)?;
+    let mended = mend_stripe(store, &stripe)?;
     Ok(mended)
 }
 
@@ -81,7 +83,11 @@ pub fn count_wrong_stripes<S: MemberStore, L: Layout>(
 {
     let mut wrong = 0;
     for number in 0..geometry.shape.stripes() {
-        if find_correction(store, &Stripe { geometry, number })?.is_some() {
+        let stripe = Stripe {
+            geometry: *geometry,
+            number,
+        };
+        if find_correction(store, &stripe)?.is_some() {
             wrong += 1;
         }
     }

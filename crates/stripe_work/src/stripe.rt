@@ -10,32 +10,33 @@ use geometry::layout::Layout;
 use geometry::place::Location;
 
 /// A stripe of an array, by its number.
+#[derive(Drop)]
 pub struct Stripe<'a, L> {
-    pub geometry: &'a Geometry<'a, L>,
+    pub geometry: Geometry<'a, L>,
     pub number: usize,
-    pub ghost inside: { number < stripe_count (blocks_of geometry.now.shape) },
+    ghost inside: { number < stripe_count (blocks_of geometry.shape) },
 }
 
 impl<'a, L: Layout> Stripe<'a, L> {
     ghost use Rattle.stripe_work.specs.declared.refusal.StripeRefusal.TheVariants.{NoStripe};
 
     /// The stripe of this number, if the array has it.
-    pub fn new(
-        geometry: &'a Geometry<'a, L>,
-        number: usize,
-    ) -> Result<Stripe<'a, L>, StripeRefusal>
+    pub fn new(geometry: &Geometry<'a, L>, number: usize) -> Result<Stripe<'a, L>, StripeRefusal>
         ensures allowed { is_ok result ≡ nat_lt number (stripe_count (blocks_of geometry.now.shape)) }
-        ensures value { MatchResult result (λ s. (s.geometry.now ≡ geometry.now) × (s.number ≡ number)) (λ e. e ≡ NoStripe number) }
+        ensures value { MatchResult result (λ s. (s.geometry ≡ geometry.now) × (s.number ≡ number)) (λ e. e ≡ NoStripe number) }
     {
         if number >= geometry.shape.stripes() {
             return Err(StripeRefusal::NoStripe(number));
         }
-        Ok(Stripe { geometry, number })
+        Ok(Stripe {
+            geometry: *geometry,
+            number,
+        })
     }
 
     /// How many data blocks the stripe has.
     pub fn positions(&self) -> usize
-        ensures value { result ≡ members_of self.now.geometry.now.shape - 1 }
+        ensures value { result ≡ members_of self.now.geometry.shape - 1 }
         ensures bounds { (2 ≤ result) × (result ≤ 7) }
     {
         self.geometry.shape.members().positions()
@@ -43,8 +44,8 @@ impl<'a, L: Layout> Stripe<'a, L> {
 
     /// The member and the block on it of the data at a position.
     pub fn data_address(&self, position: usize) -> Address
-        requires { position < members_of self.now.geometry.now.shape - 1 }
-        ensures member { result.member ≡ (L.Layout.arrangement (members_of self.now.geometry.now.shape) self.now.number).member position }
+        requires { position < members_of self.now.geometry.shape - 1 }
+        ensures member { result.member ≡ (L.Layout.arrangement (members_of self.now.geometry.shape) self.now.number).member position }
         ensures block { result.block ≡ block_of_stripe self.now.number }
     {
         let stripe = self.number;
@@ -55,7 +56,7 @@ impl<'a, L: Layout> Stripe<'a, L> {
 
     /// The member and the block on it of the parity.
     pub fn parity_address(&self) -> Address
-        ensures member { result.member ≡ (L.Layout.arrangement (members_of self.now.geometry.now.shape) self.now.number).parity }
+        ensures member { result.member ≡ (L.Layout.arrangement (members_of self.now.geometry.shape) self.now.number).parity }
         ensures block { result.block ≡ block_of_stripe self.now.number }
     {
         self.geometry.parity_address(self.number).unwrap()
