@@ -8,7 +8,7 @@ pub mod caches;
 mod calls;
 mod change;
 pub mod list;
-mod positions;
+pub mod positions;
 mod search;
 pub mod slot;
 mod stripes;

@@ -1,46 +1,34 @@
 // The blocks of one stripe, by position.
-ghost use Rattle.std.specs.Prelude.{◌≡◌, ℕ, true, false, [], is_some, slice_index_or};
-ghost use Rattle.std.specs.Option.{unwrap_or};
+ghost use Rattle.std.specs.Prelude.{◌≡◌, ℕ, None, slice_index_or};
 ghost use Rattle.geometry.specs.Counts.{members_of, blocks_of};
-ghost use Rattle.geometry.specs.Places.{numbered};
-ghost use Rattle.cache.specs.Stripes.{looked_up, by_position};
+ghost use Rattle.cache.specs.Stripes.{by_position};
 ghost use Rattle.cache.specs.Slots.{blocks};
-ghost use Rattle.cache.specs.Searches.{SlotOf};
 
-use crate::search::slot_of;
-use crate::slot::{BLOCK_BYTES, Owner, SLOTS, Slot};
+use crate::caches::Caches;
+use crate::slot::{BLOCK_BYTES, Cache};
 use geometry::place::Location;
-use geometry::shape::{MOST_MEMBERS, Shape};
+use geometry::shape::Shape;
 
-// The slot of the block at a place in a cache.
-fn slot_at(slots: &[Slot; SLOTS], owner: Owner, shape: Shape, at: Location) -> Option<usize>
-    ensures { SlotOf slots.now (looked_up (blocks owner slots.now) (numbered (members_of shape) (blocks_of shape) at)) result }
-{
-    match shape.block_number(at) {
-        Some(block) => slot_of(slots, owner, block),
-        None => None,
+/// The most data blocks of a stripe.
+pub const MOST_POSITIONS: usize = 7;
+
+impl Caches {
+    // The block at a place in a cache.
+    fn block_at(&self, cache: Cache, shape: Shape, at: Location) -> Option<[u8; BLOCK_BYTES]>
+        ensures { result ≡ by_position (members_of shape) (blocks_of shape) (blocks cache self.now.slots) at.stripe at.position }
+    {
+        self.get(cache, shape.block_number(at)?).copied()
     }
-}
 
-// Copies the blocks of a stripe in a cache into `rows` and says which there are.
-pub(super) fn copy_stripe(
-    slots: &[Slot; SLOTS],
-    owner: Owner,
-    shape: Shape,
-    stripe: usize,
-    held: &mut [bool; MOST_MEMBERS],
-    rows: &mut [[u8; BLOCK_BYTES]; MOST_MEMBERS],
-)
-    ensures positions { (j : ℕ) → slice_index_or held.new j false ≡ is_some (by_position (members_of shape) (blocks_of shape) (blocks owner slots.now) stripe j) }
-    ensures rows { (j : ℕ) → slice_index_or rows.new j [] ≡ unwrap_or (by_position (members_of shape) (blocks_of shape) (blocks owner slots.now) stripe j) (slice_index_or rows.old j []) }
-{
-    for position in 0..MOST_MEMBERS {
-        match slot_at(slots, owner, shape, Location { stripe, position }) {
-            Some(i) => {
-                held[position] = true;
-                rows[position] = slots[i].bytes;
-            }
-            None => held[position] = false,
-        }
+    // The blocks of a stripe in a cache, by position.
+    pub(super) fn stripe_blocks(
+        &self,
+        cache: Cache,
+        shape: Shape,
+        stripe: usize,
+    ) -> [Option<[u8; BLOCK_BYTES]>; MOST_POSITIONS]
+        ensures { (j : ℕ) → slice_index_or result j None ≡ by_position (members_of shape) (blocks_of shape) (blocks cache self.now.slots) stripe j }
+    {
+        std::array::from_fn(|position| self.block_at(cache, shape, Location { stripe, position }))
     }
 }
