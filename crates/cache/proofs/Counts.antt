@@ -1,5 +1,5 @@
 -- How many slots a cache has, and the blocks in them. Assumes nothing.
-use Rattle.std.proofs.Common.{◌≡◌, ℕ, ◌+◌, ◌<◌, Bool, true, false, cond, not, ◌&&◌, ◌||◌, eqb, List, [], ◌∷◌, length, is_some, Some, None, MatchBool, sym, refl, ap, ◌∙◌, arith}
+use Rattle.std.proofs.Common.{◌≡◌, ℕ, ◌+◌, Bool, true, false, cond, not, ◌&&◌, ◌||◌, eqb, List, [], ◌∷◌, length, is_some, Some, None, MatchBool, sym, refl, ap, ◌∙◌, arith}
 use mathlib.Core.Path.{fun_ext}
 use Rattle.std.specs.List.{count_by, list_any}
 use Rattle.std.specs.Option.{is_none}
@@ -7,7 +7,7 @@ use Rattle.std.proofs.lemmas.Bool.{and_from, eq-eqb, false≢true}
 use Rattle.cache.specs.declared.slot.Cache.{Cache}
 use Rattle.cache.specs.declared.slot.Cache.TheVariants.{Buffering, Destaging}
 use Rattle.cache.specs.Contents.{no_blocks}
-use Rattle.cache.specs.Slots.{Slot, same, belongs, blocks, each_once, contents_of}
+use Rattle.cache.specs.Slots.{Slot, same, belongs, blocks, each_once, contents_of, blocks_in}
 use Rattle.cache.specs.Sharing.{member, distinct, Numbers, Shared}
 use Rattle.cache.proofs.Once.{Once, once_from, count_step}
 
@@ -21,10 +21,6 @@ module _ (o : Cache) where
   some_belongs [] z = absurd (false≢true z)
   some_belongs (None ∷ xs) z = some_belongs xs z
   some_belongs (Some e ∷ xs) z = elim (same e.cache o) as (λ q. (q || list_any (belongs o) xs) ≡ true → (k : ℕ) × (is_some (cond (q && eqb e.block k) (Some e.bytes) (blocks o xs k)) ≡ true)) [ true ↦ λ h. (e.block, ap (λ p. is_some (cond p (Some e.bytes) (blocks o xs e.block))) (eq-eqb e.block e.block refl)) | false ↦ λ h. some_belongs xs h ] z
-
-  pub is_empty : (xs : List Slot) (q : Bool) → q ≡ list_any (belongs o) xs → MatchBool (not q) (blocks o xs ≡ no_blocks) ((k : ℕ) × (is_some (blocks o xs k) ≡ true))
-  is_empty xs true e = some_belongs xs (sym e)
-  is_empty xs false e = fun_ext (none_belongs xs (sym e))
 
   -- the numbers of its blocks
   abbrev pub owned : List Slot → List ℕ
@@ -44,6 +40,12 @@ module _ (o : Cache) where
 
   pub numbers : (xs : List Slot) → each_once o xs ≡ true → Numbers (blocks o xs) (owned xs)
   numbers xs u = record { once = owned_once xs (once_from o xs u); cached = owned_blocks xs }
+
+pub is_empty : (o : Cache) (xs : List Slot) (q : Bool) → q ≡ list_any (belongs o) xs → MatchBool (not q) (blocks_in o (contents_of xs) ≡ no_blocks) ((k : ℕ) × (is_some (blocks_in o (contents_of xs) k) ≡ true))
+is_empty Buffering xs true e = some_belongs Buffering xs (sym e)
+is_empty Buffering xs false e = fun_ext (none_belongs Buffering xs (sym e))
+is_empty Destaging xs true e = some_belongs Destaging xs (sym e)
+is_empty Destaging xs false e = fun_ext (none_belongs Destaging xs (sym e))
 
 -- each slot is free or has a block of one cache
 one_cache : (c : Cache) (k : ℕ) (bs ds : List ℕ) → length (cond (same c Buffering) (k ∷ bs) bs) + length (cond (same c Destaging) (k ∷ ds) ds) ≡ 1 + length bs + length ds

@@ -11,7 +11,7 @@ use Rattle.cache.specs.Contents.{put_into, no_slot_for, one_if}
 use Rattle.cache.specs.Slots.{Slot, same, holds, blocks, each_once, contents_of}
 use Rattle.cache.proofs.Lookups.{held, blocks_step, nowhere, found, none_passes}
 use Rattle.cache.proofs.Once.{some≢none, Once, once_rest, once_from, once_back, count_step, same_contents}
-use Rattle.cache.proofs.Places.{none≢some, some_injective}
+use Rattle.cache.proofs.Places.{none≢some}
 
 buffering_alone : (o : Cache) → same o Buffering ≡ true → same o Destaging ≡ false
 buffering_alone Buffering h = refl

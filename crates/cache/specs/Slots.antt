@@ -40,6 +40,11 @@ each_once o (Some e ∷ es) = not (same e.cache o && is_some (blocks o es e.bloc
 abbrev pub contents_of : List Slot → Contents
 contents_of es = record { buffering = blocks Buffering es; destaging = blocks Destaging es; free = count_by is_none es }
 
+-- The blocks of one of the caches.
+abbrev pub blocks_in : Cache → Contents → Blocks
+blocks_in Buffering c = c.buffering
+blocks_in Destaging c = c.destaging
+
 -- The caches change places.
 abbrev pub other_cache : Cache → Cache
 other_cache Buffering = Destaging

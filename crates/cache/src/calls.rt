@@ -4,14 +4,17 @@ ghost use Rattle.geometry.specs.Counts.{members_of, blocks_of};
 ghost use Rattle.cache.specs.Contents.{empty as no_contents, no_blocks, no_slot_for, put_into, newest, exchanged};
 ghost use Rattle.cache.specs.Stripes.{Listed, Lowest, by_position, stripe_freed};
 ghost use Rattle.cache.specs.Sharing.{Shared};
-ghost use Rattle.cache.specs.Meaning.{contents, blocks_in, listed};
+ghost use Rattle.cache.specs.Slots.{blocks_in};
+ghost use Rattle.cache.specs.Meaning.{contents, listed};
 
 use crate::caches::{Caches, NoFreeSlot};
 use crate::change::{exchange, free_slots_of};
 use crate::list::StripeList;
-use crate::positions::MOST_POSITIONS;
-use crate::slot::{BLOCK_BYTES, Cache, CachedBlock, SLOTS};
+use crate::search::belongs;
+use crate::slot::{BLOCK_BYTES, Cache, CachedBlock, MOST_POSITIONS, SLOTS};
+use geometry::place::Location;
 use geometry::shape::Shape;
+use std::array;
 
 impl Caches {
     /// Both caches empty.
@@ -59,14 +62,14 @@ impl Caches {
         ensures value { result ≡ (contents self.now).free }
         ensures shared { Shared (contents self.now) }
     {
-        self.count_free()
+        self.slots.iter().filter(|slot| slot.is_none()).count()
     }
 
     /// Is this cache empty?
     pub fn is_empty(&self, cache: Cache) -> bool
         ensures { MatchBool result (blocks_in cache (contents self.now) ≡ no_blocks) ((k : ℕ) × (is_some (blocks_in cache (contents self.now) k) ≡ true)) }
     {
-        !self.has_any(cache)
+        !self.slots.iter().any(|slot| belongs(slot, cache))
     }
 
     /// Empties both caches.
@@ -112,6 +115,8 @@ impl Caches {
     ) -> [Option<[u8; BLOCK_BYTES]>; MOST_POSITIONS]
         ensures { (j : ℕ) → slice_index_or result j None ≡ by_position (members_of shape) (blocks_of shape) (contents self.now).destaging stripe j }
     {
-        self.stripe_blocks(Cache::Destaging, shape, stripe)
+        array::from_fn(|position| {
+            self.block_at(Cache::Destaging, shape, Location { stripe, position })
+        })
     }
 }

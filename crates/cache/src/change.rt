@@ -4,7 +4,6 @@ ghost use Rattle.geometry.specs.Counts.{members_of, blocks_of};
 ghost use Rattle.cache.specs.Stripes.{in_stripe};
 ghost use Rattle.cache.specs.Slots.{other_cache, slot_exchanged, slot_freed};
 
-use crate::search::belongs;
 use crate::slot::{Cache, SLOTS, Slot};
 use crate::stripes::slot_stripe;
 use geometry::shape::Shape;

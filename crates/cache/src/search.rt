@@ -1,12 +1,15 @@
 // Searches through the slots.
-ghost use Rattle.std.specs.Prelude.{◌≡◌, position, count_by, is_none};
-ghost use Rattle.std.specs.List.{list_any};
+ghost use Rattle.std.specs.Prelude.{◌≡◌, position, is_none};
 ghost use Rattle.std.specs.Option.{option_copied, option_or};
+ghost use Rattle.geometry.specs.Counts.{members_of, blocks_of};
+ghost use Rattle.cache.specs.Stripes.{by_position};
 ghost use Rattle.cache.specs.declared.slot.Cache.TheVariants.{Buffering};
 ghost use Rattle.cache.specs.Slots.{holds as holds_block, belongs as belongs_to, blocks};
 
 use crate::caches::Caches;
 use crate::slot::{BLOCK_BYTES, Cache, Slot};
+use geometry::place::Location;
+use geometry::shape::Shape;
 
 // Does a slot have a block of this cache?
 pub(super) fn belongs(slot: &Slot, cache: Cache) -> bool
@@ -45,20 +48,6 @@ impl Caches {
             .or_else(|| self.free_slot())
     }
 
-    // How many slots are free.
-    pub(super) fn count_free(&self) -> usize
-        ensures { result ≡ count_by is_none self.now.slots }
-    {
-        self.slots.iter().filter(|slot| slot.is_none()).count()
-    }
-
-    // Has a slot a block of this cache?
-    pub(super) fn has_any(&self, cache: Cache) -> bool
-        ensures { result ≡ list_any (belongs_to cache) self.now.slots }
-    {
-        self.slots.iter().any(|slot| belongs(slot, cache))
-    }
-
     // The bytes of a block in a cache.
     pub(super) fn get(&self, cache: Cache, block: usize) -> Option<&[u8; BLOCK_BYTES]>
         ensures { option_copied result ≡ blocks cache self.now.slots block }
@@ -66,5 +55,17 @@ impl Caches {
         let slot = self.slot_of(cache, block)?;
         let cached = self.slots[slot].as_ref()?;
         Some(&cached.bytes)
+    }
+
+    // The bytes of the block at a place in the array, if it is in a cache.
+    pub(super) fn block_at(
+        &self,
+        cache: Cache,
+        shape: Shape,
+        at: Location,
+    ) -> Option<[u8; BLOCK_BYTES]>
+        ensures { result ≡ by_position (members_of shape) (blocks_of shape) (blocks cache self.now.slots) at.stripe at.position }
+    {
+        self.get(cache, shape.block_number(at)?).copied()
     }
 }

@@ -4,7 +4,11 @@
 pub const SLOTS: usize = 32;
 
 /// How many bytes a block has.
+// Kept: a constant of this crate's own, since it stands on geometry alone, which knows nothing of bytes.
 pub const BLOCK_BYTES: usize = 512;
+
+/// The most data blocks of a stripe: one less than the most members of an array.
+pub const MOST_POSITIONS: usize = 7;
 
 /// One of the two caches.
 #[derive(Clone, Copy, PartialEq, Eq)]

@@ -1,9 +1,7 @@
-use Rattle.std.proofs.Common.{◌≡◌, ◌<◌, true, false, length, get_or, set, cond, None, sym, refl, ap, ◌∙◌, arith}
+use Rattle.std.proofs.Common.{◌<◌, length, get_or, set, cond, None, sym, refl, ap, ◌∙◌, arith}
 use Rattle.geometry.specs.Counts.{members_of, blocks_of}
-use Rattle.cache.specs.declared.slot.Cache.TheVariants.{Destaging}
 use Rattle.cache.specs.Stripes.{in_stripe, is_number}
 use Rattle.cache.specs.Slots.{slot_freed}
-use Rattle.cache.specs.Searches.{slot_stripe}
 use Rattle.cache.proofs.Maps.{map_turn, number_eq, freed_if}
 use Rattle.cache.proofs.change.free_slots_of.Goals as goal
 use Rattle.cache.proofs.change.free_slots_of.Goals.{then-eq, else-eq}
