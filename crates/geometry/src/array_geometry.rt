@@ -60,15 +60,13 @@ impl<'a, L: Layout> Geometry<'a, L> {
         ensures value { result ≡ content_at L.Layout.arrangement (members_of self.now.shape) (blocks_of self.now.shape) at }
         ensures undone { Undone (address_of L.Layout.arrangement (members_of self.now.shape) (blocks_of self.now.shape) (stripe_of_block at.block)) at result }
     {
+        let members = self.shape.members;
         let stripe = at.block;
-        if at.member >= self.shape.members().get() {
+        if at.member >= members.get() || stripe >= self.shape.stripes() {
             return None;
         }
-        if stripe >= self.shape.stripes() {
-            return None;
-        }
-        match self.layout.position_on(self.shape.members(), stripe, at.member) {
-            Some(position) => Some(Content::Data(stripe * self.shape.members().positions() + position)),
+        match self.layout.position_on(members, stripe, at.member) {
+            Some(position) => Some(Content::Data(stripe * members.positions() + position)),
             None => Some(Content::Parity),
         }
     }

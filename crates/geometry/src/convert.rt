@@ -41,11 +41,8 @@ impl Shape {
         ensures value { result ≡ numbered (members_of self) (blocks_of self) at }
         ensures undone { Undone (located (members_of self) (blocks_of self)) at result }
     {
-        if at.stripe >= self.stripes() {
-            return None;
-        }
         let positions = self.members.positions();
-        if at.position >= positions {
+        if at.stripe >= self.stripes() || at.position >= positions {
             return None;
         }
         Some(at.stripe * positions + at.position)
