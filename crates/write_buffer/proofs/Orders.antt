@@ -1,26 +1,16 @@
 -- Passing held stores below, one by one.
-use Rattle.std.proofs.Common.{◌≡◌, ℕ, ◌<◌, true, false, List, [], ◌∷◌, ◌++◌, map, length, get_or, None, Ok, Err, Result, sym, refl, ap, ◌∙◌, arith}
-use Rattle.std.proofs.lemmas.List.{map_push}
+use Rattle.std.proofs.Common.{◌≡◌, ℕ, ◌<◌, true, false, List, [], ◌∷◌, length, get_or, Ok, Err, Result, sym, refl, ap, arith}
 use Rattle.std.specs.List.{remove}
 use Rattle.member_store.specs.Meaning.{Meaning}
-use Rattle.member_store.specs.Calls.{Stores, Bars, checks, barrier_checks}
+use Rattle.member_store.specs.Calls.{Stores}
 use Rattle.member_store.specs.declared.refusal.Refusal.{Refusal}
 use Rattle.write_buffer.specs.Passing.{power_answer, remaining, PassesOldest, PassesAll}
-use Rattle.write_buffer.specs.Buffer.{content, Appended, BufferReads, MakesRoom, BufferStores, BufferBars}
-use Rattle.write_buffer.specs.Replay.{holds, buffered}
 use Rattle.write_buffer.specs.declared.held.HeldStore.{HeldStore}
 
 -- the first of a list, and the rest
 pub first_out : (hs rest : List HeldStore) (h : HeldStore) → 0 < length hs → h ≡ get_or hs 0 h → rest ≡ remove hs 0 → hs ≡ h ∷ rest
 first_out [] rest h some e f = absurd (let z : ⊥ = omega arith in z)
 first_out (x ∷ xs) rest h some e f = cc
-
-pub appended_from : (hs more : List HeldStore) (h : HeldStore) (x : List ℕ) → more ≡ hs ++ h ∷ [] → h.bytes ≡ x → Appended hs h.at.member h.at.block x more
-appended_from hs more h x e f = ap (map content) e ∙ map_push content hs h ∙ ap (λ y. map content hs ++ (h.at.member, h.at.block, y) ∷ []) f
-
--- a read of a block of which no store is held
-pub reads_below : {S : Type 0} (meaning : S → Meaning) (m b : ℕ) (old : List ℕ) (r : Result (Unit {0}) Refusal) (Q : Type 0) (held held' : List HeldStore) (s t : S) → checks (buffered held (meaning s)) m b (length old) ≡ None → holds held m b ≡ false → held' ≡ held → Q → BufferReads meaning m b old r Q held s held' t
-reads_below meaning m b old r Q held held' s t c h e q = rw (c, h) (e, q)
 
 module _ {S : Type 0} (meaning : S → Meaning) (storing : S → ℕ → ℕ → List ℕ → Result (Unit {0}) Refusal → S → Type 0) where
   module _ (h : HeldStore) (s t : S) (r : Result (Unit {0}) Refusal) (means : Stores (meaning s) h.at.member h.at.block h.bytes r (meaning t)) (own : storing s h.at.member h.at.block h.bytes r t) where
@@ -45,17 +35,3 @@ module _ {S : Type 0} (meaning : S → Meaning) (storing : S → ℕ → ℕ →
   pub oldest_stops : (hs left : List HeldStore) (s t : S) (e : Refusal) → PassesOldest meaning storing hs s (Err e) left t → PassesAll meaning storing hs s (Err e) left t
   oldest_stops [] left s t e p = absurd p
   oldest_stops (h ∷ later) left s t e p = (Err e, t, p.0, (refl, p.1, refl))
-
-  -- a store, once there is room or power went on the way
-  pub stores_held : (m b : ℕ) (x : List ℕ) (held left held' : List HeldStore) (s u t : S) → checks (buffered held (meaning s)) m b (length x) ≡ None → MakesRoom meaning storing (Ok tt) held s left u → Appended left m b x held' → t ≡ u → BufferStores meaning storing m b x (Ok tt) held s held' t
-  stores_held m b x held left held' s u t c p a e = rw (c, e) (Ok tt, left, p, (refl, a))
-
-  pub stores_stopped : (m b : ℕ) (x : List ℕ) (held left : List HeldStore) (s t : S) (e : Refusal) → checks (buffered held (meaning s)) m b (length x) ≡ None → MakesRoom meaning storing (Err e) held s left t → BufferStores meaning storing m b x (Err e) held s left t
-  stores_stopped m b x held left s t e c p = rw c (Err e, left, p, (refl, refl))
-
-  -- a barrier, once all is passed below or power went on the way
-  pub bars_below : (barring : S → Result (Unit {0}) Refusal → S → Type 0) (r : Result (Unit {0}) Refusal) (held left : List HeldStore) (s u t : S) → barrier_checks (buffered held (meaning s)) ≡ None → PassesAll meaning storing held s (Ok tt) left u → Bars (meaning u) r (meaning t) → barring u r t → BufferBars meaning storing barring r held s left t
-  bars_below barring r held left s u t c p k o = rw c (Ok tt, u, p, (k, o))
-
-  pub bars_stopped : (barring : S → Result (Unit {0}) Refusal → S → Type 0) (held left : List HeldStore) (s t : S) (e : Refusal) → barrier_checks (buffered held (meaning s)) ≡ None → PassesAll meaning storing held s (Err e) left t → BufferBars meaning storing barring (Err e) held s left t
-  bars_stopped barring held left s t e c p = rw c (Err e, t, p, (refl, refl))

@@ -28,10 +28,10 @@ impl<S: MemberStore> WriteBuffer<S> {
     pub fn new(heap: Global, below: S) -> Result<WriteBuffer<S>, S>
         ensures { MatchResult result (λ w. (w.below ≡ below) × (w.held.items ≡ [])) (λ s. s ≡ below) }
     {
-        match Vec::with_capacity(heap, CAPACITY) {
-            Ok(held) => Ok(WriteBuffer { below, held }),
-            Err(_) => Err(below),
-        }
+        let Ok(held) = Vec::with_capacity(heap, CAPACITY) else {
+            return Err(below);
+        };
+        Ok(WriteBuffer { below, held })
     }
 
     /// Gives the store below back; what is held is lost.
@@ -116,29 +116,8 @@ impl<S: MemberStore> WriteBuffer<S> {
         ensures stored { Stored (buffered self.old.held.items (S.MemberStore.meaning self.old.below)) at.member at.block bytes.now (buffered self.new.held.items (S.MemberStore.meaning self.new.below)) }
         ensures below { self.new.below ≡ self.old.below }
     {
-        let mut copy = [0u8; BLOCK_BYTES];
-        copy.copy_from_slice(bytes);
-        self.held.push_reserved(HeldStore {
-            at,
-            bytes: copy,
-        });
-    }
-
-    // A barrier of the store below.
-    fn bar_below(&mut self) -> Result<(), Refusal>
-        ensures means { Bars (S.MemberStore.meaning self.old.below) result (S.MemberStore.meaning self.new.below) }
-        ensures own { S.MemberStore.barring self.old.below result self.new.below }
-        ensures held { self.new.held ≡ self.old.held }
-    {
-        self.below.barrier()
-    }
-
-    // Drops what is held.
-    fn drop_held(&mut self)
-        ensures none { self.new.held.items ≡ [] }
-        ensures below { self.new.below ≡ self.old.below }
-    {
-        self.held.clear();
+        let bytes = <[u8; BLOCK_BYTES]>::try_from(bytes).unwrap();
+        self.held.push_reserved(HeldStore { at, bytes });
     }
 }
 
@@ -194,11 +173,11 @@ impl<S: MemberStore> MemberStore for WriteBuffer<S> {
             return Err(Refusal::PowerOff(None));
         }
         self.pass_all()?;
-        self.bar_below()
+        self.below.barrier()
     }
 
     fn power_on(&mut self) {
-        self.drop_held();
+        self.held.clear();
         self.below.power_on();
     }
 }
