@@ -16,6 +16,7 @@ ghost use Rattle.record.specs.Spelling.{Spelt, SpeltAll};
 ghost use Rattle.record.specs.Examples.{WorkedExamples, example as sample};
 
 pub mod form;
+pub mod text;
 
 use form::Record;
 use leb128::decoded::Decoded;
