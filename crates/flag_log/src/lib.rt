@@ -1,7 +1,7 @@
 //! The flag log: one block that says whether any stripe may have been written to.
 #![tactic(auto)]
 
-ghost use Rattle.std.specs.Prelude.{◌≡◌, true, false, ◌&&◌, length};
+ghost use Rattle.std.specs.Prelude.{◌≡◌, true, false, ◌&&◌};
 ghost use Rattle.std.proofs.Common.{◌∙◌, ap, rules};
 ghost use Rattle.flag_log.specs.Form.{every, flag_block, flag_record};
 ghost use Rattle.flag_log.specs.Flag.{flag as meant, Sound, standing_of};
@@ -35,8 +35,7 @@ fn block_of(flag: Option<FlagRecord>) -> [u8; BLOCK_BYTES]
 }
 
 // The record that a block holds, if any.
-fn record_in(bytes: &[u8]) -> Option<FlagRecord>
-    requires { length bytes.now ≡ 512 }
+fn record_in(bytes: &[u8; BLOCK_BYTES]) -> Option<FlagRecord>
     ensures { result ≡ flag_record bytes.now }
 {
     if !all_zero(&bytes[1..]) {

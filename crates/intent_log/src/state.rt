@@ -5,6 +5,7 @@
 pub struct LogState<S, R> {
     pub store: S,
     /// Power-on has found what stands.
+    // Kept: a flag beside the value, since an `Option<Option<R>>` would be no plainer and `is_none` would ask two things.
     pub awake: bool,
     /// The record that stands, if any.
     pub standing: Option<R>,

@@ -23,19 +23,3 @@ returns-in_err-store_and_bar g c =
       calls = (e, (refl, subst (λ (x : List ℕ). Stopped (device.store 0 0 x ∷ device.barrier ∷ []) s e t) c.block_of.ensures c.in_err-store_and_bar.ensures));
       memory = refl;
     })
-
-pub returns : goal.returns
-returns g c =
-    let me = c.args.self.now.state in
-    let end = c.store_and_bar.new.store in
-    let s = g.S.MemberStore.meaning me.store in
-    let t = g.S.MemberStore.meaning end in
-    record {
-      at = first_block s (g.met.S.MemberStore.counts me.store);
-      still = first_block t (g.met.S.MemberStore.counts end);
-      law = g.met.S.MemberStore.stands end;
-      on = c.requires;
-      awake = refl;
-      calls = subst (λ (x : List ℕ). Completed (device.store 0 0 x ∷ device.barrier ∷ []) s t) c.block_of.ensures c.in_ok-store_and_bar.ensures;
-      memory = refl;
-    }
