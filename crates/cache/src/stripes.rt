@@ -47,6 +47,7 @@ impl Caches {
     pub(super) fn all_stripes(&self, cache: Cache, shape: Shape) -> StripeList
         ensures { Listed (members_of shape) (blocks_of shape) (blocks cache self.now.slots) (listed result) }
     {
+        // Kept: the list fills its array from the front, as a push would; the loop goes over stripes and no indices.
         let mut numbers = [0; SLOTS];
         let mut count = 0;
         let mut from = 0;
