@@ -12,11 +12,9 @@ use member_store::{BLOCK_BYTES, MemberStore};
 
 /// The laws of lists of device calls, proved: how two lists one after the other are performed, and what a list leaves of
 /// power, counts, current bytes and versions, whether it is completed or stopped.
-pub fn laws_hold() -> u8
+pub fn laws_hold()
     ensures { Laws }
-{
-    0
-}
+{}
 
 // Stores a block.
 fn store_block<S: MemberStore>(

@@ -1,11 +1,11 @@
 // Member stores: the interface, what its calls mean, and why they are refused.
 #![tactic(auto)]
 
-ghost use Rattle.std.specs.Prelude.{◌≡◌, ℕ, ◌≤◌, List, length, Result as Answer};
+ghost use Rattle.std.specs.Prelude.{◌≡◌, ℕ, ◌≤◌, List, length, Some, None, MatchResult, Result as Answer};
 ghost use Rattle.member_store.specs.declared.refusal.Refusal.{Refusal as Cause};
 ghost use Rattle.member_store.specs.Meaning.{Meaning, current, Version, HasBlock};
 ghost use Rattle.member_store.specs.Refusals.{number as number_of, place as place_of};
-ghost use Rattle.member_store.specs.Calls.{checks, verdict, Reads, Stores, Bars, PoweredOn};
+ghost use Rattle.member_store.specs.Calls.{checks, Reads, Stores, Bars, PoweredOn};
 
 pub mod refusal;
 pub mod text;
@@ -39,25 +39,6 @@ impl Refusal {
     }
 }
 
-/// The checks that every store makes before a read or a store of `len` bytes: power, member, block, length.
-pub fn check_access<S: MemberStore>(store: &S, at: Address, len: usize) -> Result<(), Refusal>
-    ensures { result ≡ verdict (checks (S.MemberStore.meaning store.now) at.member at.block len) }
-{
-    if !store.powered() {
-        return Err(Refusal::PowerOff(Some(at)));
-    }
-    if at.member >= store.members() {
-        return Err(Refusal::NoMember(at.member));
-    }
-    if at.block >= store.blocks() {
-        return Err(Refusal::NoBlock(at.block));
-    }
-    if len != BLOCK_BYTES {
-        return Err(Refusal::WrongLength(len));
-    }
-    Ok(())
-}
-
 /// The disks of a box: members with the same number of blocks, which keep several versions of a block until a barrier.
 pub trait MemberStore {
     ghost meaning: { Self → Meaning };
@@ -82,6 +63,25 @@ pub trait MemberStore {
     /// How many blocks each member has, at least 1.
     fn blocks(&self) -> usize
         ensures { result ≡ (meaning self.now).blocks };
+
+    /// The checks of a read or a store of `len` bytes at a block, in their order: power, member, block, length.
+    fn check_access(&self, at: Address, len: usize) -> Result<(), Refusal>
+        ensures { MatchResult result (λ _. checks (meaning self.now) at.member at.block len ≡ None) (λ e. checks (meaning self.now) at.member at.block len ≡ Some e) }
+    {
+        if !self.powered() {
+            return Err(Refusal::PowerOff(Some(at)));
+        }
+        if at.member >= self.members() {
+            return Err(Refusal::NoMember(at.member));
+        }
+        if at.block >= self.blocks() {
+            return Err(Refusal::NoBlock(at.block));
+        }
+        if len != BLOCK_BYTES {
+            return Err(Refusal::WrongLength(len));
+        }
+        Ok(())
+    }
 
     /// Copies the current bytes of a block into `into`, which a refusal leaves as it was.
     fn read(&mut self, at: Address, into: &mut [u8]) -> Result<(), Refusal>

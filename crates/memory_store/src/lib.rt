@@ -13,7 +13,7 @@ pub mod memory;
 
 use block_address::Address;
 use member_store::refusal::Refusal;
-use member_store::{BLOCK_BYTES, MemberStore, check_access};
+use member_store::{BLOCK_BYTES, MemberStore};
 use memory::{BadCounts, MemoryStore};
 
 // The number of a refused making.
@@ -32,10 +32,7 @@ impl BadCounts {
 fn fits(members: usize, blocks: usize, len: usize) -> bool
     ensures { Tells result (Fits members blocks len) }
 {
-    if members == 0 || blocks == 0 {
-        return false;
-    }
-    members <= len / BLOCK_BYTES / blocks
+    members > 0 && blocks > 0 && members <= len / BLOCK_BYTES / blocks
 }
 
 impl MemoryStore {
@@ -61,11 +58,7 @@ impl MemoryStore {
     pub fn into_bytes(self) -> Vec<u8>
         ensures { result ≡ self.bytes }
     {
-        let MemoryStore {
-            members: _,
-            blocks: _,
-            bytes,
-        } = self;
+        let MemoryStore { bytes, .. } = self;
         bytes
     }
 
@@ -136,14 +129,14 @@ impl MemberStore for MemoryStore {
     }
 
     fn read(&mut self, at: Address, into: &mut [u8]) -> Result<(), Refusal> {
-        check_access(self, at, into.len())?;
+        self.check_access(at, into.len())?;
         let start = self.offset(at);
         into.copy_from_slice(&self.bytes[start..start + BLOCK_BYTES]);
         Ok(())
     }
 
     fn store(&mut self, at: Address, bytes: &[u8]) -> Result<(), Refusal> {
-        check_access(self, at, bytes.len())?;
+        self.check_access(at, bytes.len())?;
         self.put(at, bytes);
         Ok(())
     }

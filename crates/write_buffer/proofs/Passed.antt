@@ -6,7 +6,8 @@ use Rattle.member_store.specs.Refusals.{IsPowerOff}
 use Rattle.member_store.specs.Calls.{SameCounts, Cut, CutStore, Stored, Barred, PoweredOn, Stores, Reads, Bars, checks, barrier_checks}
 use Rattle.member_store.specs.declared.refusal.Refusal.{Refusal}
 use Rattle.member_store.proofs.Checks.{passing}
-use Rattle.member_store.proofs.Refusals.{some≢none, refused_cases, refused_went, refused_weaker}
+use Rattle.std.proofs.lemmas.Option.{none-some}
+use Rattle.member_store.proofs.Refusals.{refused_cases, refused_went, refused_weaker}
 use Rattle.member_store.proofs.Versions.{last_cond, in_cond, cond_in}
 use Rattle.write_buffer.specs.Replay.{is_to, replay, buffered}
 use Rattle.write_buffer.specs.Passing.{FewerVersions}
@@ -69,7 +70,7 @@ module _ (h : HeldStore) (s t : Meaning) (on : s.on ≡ true) where
   passed_fewer (Err e) long k up =
       ⊎_elim
       (λ c. absurd (both_ways t.on c.1.1.off up))
-      (λ c. nowhere (λ p. absurd (some≢none (sym c.0 ∙ passing s.on s.members s.blocks h.at.member h.at.block (length h.bytes) (record { on = on; member = p.0; block = p.1; long = long })))) c.1)
+      (λ c. nowhere (λ p. absurd (none-some e (sym (passing s.on s.members s.blocks h.at.member h.at.block (length h.bytes) (record { on = on; member = p.0; block = p.1; long = long })) ∙ c.0))) c.1)
       (refused_cases (checks s h.at.member h.at.block (length h.bytes)) e _ _ k)
 
   -- power stayed: the oldest is gone from what is held
@@ -126,14 +127,6 @@ module _ (s t u : Meaning) (h : FewerVersions s t) where
     former = λ m b v p j. h.former m b v p (k.former m b v (place p) j);
   }
 
-pub fewer_none : (s : Meaning) → FewerVersions s s
-fewer_none s = record {
-  on = refl;
-  sized = record { members = refl; blocks = refl };
-  same = λ m b p. refl;
-  former = λ m b v p k. k;
-}
-
 -- power going before the store is a cut store that added nothing
 pub cut_store : (s t : Meaning) (m b : ℕ) (x : List ℕ) → Cut s t → CutStore s m b x t
 cut_store s t m b x k = record { off = k.off; sized = k.sized; former = λ i j v p e. inl (k.former i j v p e) }
@@ -166,7 +159,7 @@ bars_then s t u (Ok x) on h k = (simp on, barred_then s t u h k.1)
 bars_then s t u (Err e) on h k =
     ⊎_elim
     (λ c. refused_went (barrier_checks s) e (u ≡ s) _ (simp on) (c.1.0, cut_then s t u h c.1.1))
-    (λ c. absurd (some≢none (sym c.0 ∙ simp (h.on, on))))
+    (λ c. absurd (none-some e (simp (h.on, on) at c.0)))
     (refused_cases (barrier_checks t) e (u ≡ t) _ k)
 
 pub reads_under : {U : Type 0} (hs : List HeldStore) (s t : Meaning) (m b : ℕ) (old new : List ℕ) (r : Result U Refusal) → current (buffered hs s) m b ≡ current s m b → Reads s m b old r new t → Reads (buffered hs s) m b old r new (buffered hs t)
