@@ -9,7 +9,7 @@ ghost use Rattle.array.specs.Sound.{means, LogOn, Sized, Bounded, Sound};
 use crate::array::Array;
 use crate::next::next_stripe;
 use crate::tokens::ResyncTicket;
-use array_model::answer::Step;
+use array_model::answer::TakenStripe;
 use array_model::refusal::ArrayRefusal;
 use array_model::state::{Progress, State};
 use array_work::resync::take_stripe;
@@ -46,7 +46,7 @@ impl<S: MemberStore, G: IntentLog, L: Layout> Array<S, G, L> {
         shape: Shape,
         progress: Progress,
         stripe: usize,
-    ) -> Result<Step, ArrayRefusal>
+    ) -> Result<Option<TakenStripe>, ArrayRefusal>
         requires { stripe < stripe_count (blocks_of shape) }
         ensures sound { LogOn (G.IntentLog.sound self.old.log) (G.IntentLog.meaning self.old.log) → Sized (S.MemberStore.meaning self.old.store) → Bounded progress → progress.next ≤ stripe → Sound S.MemberStore.meaning G.IntentLog.meaning G.IntentLog.sound self.new }
         ensures does { members_of shape ≡ (S.MemberStore.meaning self.old.store).members → blocks_of shape ≡ (S.MemberStore.meaning self.old.store).blocks → Bounded progress → Takes (geometry L.Layout.arrangement (means S.MemberStore.meaning G.IntentLog.meaning self.old)) progress stripe (means S.MemberStore.meaning G.IntentLog.meaning self.old) result (means S.MemberStore.meaning G.IntentLog.meaning self.new) }
@@ -54,7 +54,7 @@ impl<S: MemberStore, G: IntentLog, L: Layout> Array<S, G, L> {
         match take_stripe(&mut self.store, &self.layout, shape, stripe) {
             Ok(mended) => {
                 self.state = State::Resync(taken(progress, stripe, mended));
-                Ok(Step::Taken { stripe, mended })
+                Ok(Some(TakenStripe { stripe, mended }))
             }
             Err(e) => {
                 self.state = State::Fallen;
@@ -64,7 +64,7 @@ impl<S: MemberStore, G: IntentLog, L: Layout> Array<S, G, L> {
     }
 
     /// Takes the next named stripe of the array that is not yet taken, and tells it, or that none is left.
-    pub fn step(&mut self, _ticket: &ResyncTicket) -> Result<Step, ArrayRefusal>
+    pub fn step(&mut self, _ticket: &ResyncTicket) -> Result<Option<TakenStripe>, ArrayRefusal>
         ensures sound { Sound S.MemberStore.meaning G.IntentLog.meaning G.IntentLog.sound self.old → Sound S.MemberStore.meaning G.IntentLog.meaning G.IntentLog.sound self.new }
         ensures does { Sound S.MemberStore.meaning G.IntentLog.meaning G.IntentLog.sound self.old → Steps (geometry L.Layout.arrangement (means S.MemberStore.meaning G.IntentLog.meaning self.old)) (means S.MemberStore.meaning G.IntentLog.meaning self.old) result (means S.MemberStore.meaning G.IntentLog.meaning self.new) }
     {
@@ -72,7 +72,7 @@ impl<S: MemberStore, G: IntentLog, L: Layout> Array<S, G, L> {
             State::Resync(progress) => match next_stripe(&self.store, &self.log, progress.next) {
                 Ok(next) => match next.1 {
                     Some(stripe) => self.take(next.0, progress, stripe),
-                    None => Ok(Step::NoneLeft),
+                    None => Ok(None),
                 },
                 Err(e) => Err(e),
             },

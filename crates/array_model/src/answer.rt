@@ -1,12 +1,11 @@
 // What accepted calls answer.
 
-/// The answer of a step of resynchronization.
+/// A stripe that a step of resynchronization has taken.
 #[derive(Clone, Copy, PartialEq, Eq, Debug)]
-pub enum Step {
-    /// This stripe was read; was its parity wrong, and so stored?
-    Taken { stripe: usize, mended: bool },
-    /// No named stripe of the array is left to take.
-    NoneLeft,
+pub struct TakenStripe {
+    pub stripe: usize,
+    /// Was its parity wrong, and so stored?
+    pub mended: bool,
 }
 
 /// The counts that a finish answers.

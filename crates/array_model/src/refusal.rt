@@ -1,5 +1,10 @@
 // Why the array refuses a call.
+ghost use Rattle.std.specs.Prelude.{◌≡◌};
+ghost use Rattle.array_model.specs.declared.refusal.ArrayRefusal.TheVariants.{Members as FromMembers, Log as FromLog, Limits as FromLimits, NoSlot as FromSlot};
+
 use crate::state::State;
+use cache::caches::NoFreeSlot;
+use geometry::shape::OutOfLimits;
 use intent_log::refusal::LogRefusal;
 use member_store::refusal::{Place, Refusal};
 
@@ -57,4 +62,36 @@ pub enum Detail {
     In(State),
     /// A block, a stripe, a member or a length.
     Number(usize),
+}
+
+impl From<Refusal> for ArrayRefusal {
+    ghost from_gives = { λ refusal e. e ≡ FromMembers refusal };
+
+    fn from(refusal: Refusal) -> ArrayRefusal {
+        ArrayRefusal::Members(refusal)
+    }
+}
+
+impl From<LogRefusal> for ArrayRefusal {
+    ghost from_gives = { λ refusal e. e ≡ FromLog refusal };
+
+    fn from(refusal: LogRefusal) -> ArrayRefusal {
+        ArrayRefusal::Log(refusal)
+    }
+}
+
+impl From<OutOfLimits> for ArrayRefusal {
+    ghost from_gives = { λ counts e. e ≡ FromLimits counts.members counts.blocks };
+
+    fn from(counts: OutOfLimits) -> ArrayRefusal {
+        ArrayRefusal::Limits(counts.members, counts.blocks)
+    }
+}
+
+impl From<NoFreeSlot> for ArrayRefusal {
+    ghost from_gives = { λ full e. e ≡ FromSlot full.block };
+
+    fn from(full: NoFreeSlot) -> ArrayRefusal {
+        ArrayRefusal::NoSlot(full.block)
+    }
 }

@@ -1,5 +1,5 @@
 // What the calls of a list answer.
-use array_model::answer::{Destage, FlushCounts, ResyncCounts, Step};
+use array_model::answer::{Destage, FlushCounts, ResyncCounts, TakenStripe};
 use array_model::refusal::ArrayRefusal;
 
 /// The answer of one call.
@@ -9,7 +9,8 @@ pub enum Answer {
     NoToken,
     /// Power-on, format, the openings, write and close tell nothing more.
     Plain(Result<(), ArrayRefusal>),
-    Step(Result<Step, ArrayRefusal>),
+    /// The stripe that was taken; none where no named stripe of the array is left.
+    Step(Result<Option<TakenStripe>, ArrayRefusal>),
     Finish(Result<ResyncCounts, ArrayRefusal>),
     /// The buffer of a read.
     Read(Result<Vec<u8>, ArrayRefusal>),

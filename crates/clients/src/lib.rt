@@ -6,7 +6,6 @@ ghost use Rattle.array.specs.Sound.{Sound};
 use array::array::Array;
 use array::refusal::CloseRefusal;
 use array::tokens::{FinishRefusal, ReadyPermit, ResyncTicket};
-use array_model::answer::Step;
 use array_model::refusal::ArrayRefusal;
 use geometry::layout::Layout;
 use intent_log::IntentLog;
@@ -21,10 +20,11 @@ fn resynchronize<S: MemberStore, G: IntentLog, L: Layout>(
 {
     for _ in 0..16_777_217 {
         match array.step(ticket) {
-            Ok(step) => match step {
-                Step::Taken { .. } => {}
-                Step::NoneLeft => return Ok(()),
-            },
+            Ok(taken) => {
+                if taken.is_none() {
+                    return Ok(());
+                }
+            }
             Err(e) => return Err(e),
         }
     }

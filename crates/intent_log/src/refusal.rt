@@ -1,4 +1,7 @@
 // Why a log refuses a call.
+ghost use Rattle.std.specs.Prelude.{◌≡◌};
+ghost use Rattle.intent_log.specs.declared.refusal.LogRefusal.TheVariants.{Store as FromStore};
+
 use member_store::refusal::Refusal;
 
 /// The part of a box that refused.
@@ -27,4 +30,12 @@ pub enum LogRefusal {
     Spent,
     /// The list, of this length, does not fit.
     DoesNotFit(usize),
+}
+
+impl From<Refusal> for LogRefusal {
+    ghost from_gives = { λ refusal e. e ≡ FromStore refusal };
+
+    fn from(refusal: Refusal) -> LogRefusal {
+        LogRefusal::Store(refusal)
+    }
 }

@@ -3,7 +3,7 @@ ghost use Rattle.simulate.specs.Lines.{FillOf};
 
 use super::command::Command;
 use super::show::Picture;
-use array_model::answer::{Destage, FlushCounts, ResyncCounts, Step};
+use array_model::answer::{Destage, FlushCounts, ResyncCounts, TakenStripe};
 use array_model::refusal::{ArrayRefusal, BoxLayer, Detail};
 use array_model::state::State;
 use array_run::answer::Answer;
@@ -93,17 +93,17 @@ fn write_refusal<W: fmt::Write>(f: &mut fmt::Formatter<W>, refusal: &ArrayRefusa
     write_detail(f, refusal.detail())
 }
 
-fn write_step<W: fmt::Write>(f: &mut fmt::Formatter<W>, step: Step) -> fmt::Result {
+fn write_step<W: fmt::Write>(f: &mut fmt::Formatter<W>, step: Option<TakenStripe>) -> fmt::Result {
     match step {
-        Step::Taken {
+        Some(TakenStripe {
             stripe,
             mended: true,
-        } => write!(f, "stripe {stripe} mended"),
-        Step::Taken {
+        }) => write!(f, "stripe {stripe} mended"),
+        Some(TakenStripe {
             stripe,
             mended: false,
-        } => write!(f, "stripe {stripe} right"),
-        Step::NoneLeft => f.write_str("none left"),
+        }) => write!(f, "stripe {stripe} right"),
+        None => f.write_str("none left"),
     }
 }
 
