@@ -29,9 +29,11 @@ pub fn next_due<G: IntentLog>(
     let stripes = shape.stripes();
     // Past the array's stripes there is nothing to find, however high the number.
     let found = log.next_named(from.min(stripes) as u32)?;
-    Ok(found
-        .map(|stripe| stripe as usize)
-        .filter(|stripe| *stripe < stripes))
+    Ok(
+        found
+            .map(|stripe| stripe as usize)
+            .filter(|stripe| *stripe < stripes),
+    )
 }
 
 /// Takes one stripe of the array: reads it, and stores its parity where that was wrong. Answers whether it did.

@@ -2,7 +2,7 @@ use Rattle.std.proofs.Common.{◌≡◌, ℕ, ◌<◌, [], ◌∷◌, subst, ari
 use Rattle.std.proofs.lemmas.Result.{err_from_is_err_and}
 use Rattle.geometry.specs.Counts.{members_of}
 use Rattle.parity.specs.Xor.{zeros}
-use Rattle.device_calls.specs.Lists.{store, for_each, Completed, Stopped}
+use Rattle.device_calls.specs.Lists.{store, for_each, Completed}
 use Rattle.device_calls.proofs.Append.{for_each_more, for_each_stopped}
 use Rattle.array_work.proofs.format.zero_members.Goals as goal
 

@@ -11,8 +11,7 @@ returns-in_err-read g c =
     let at = c.block_address-at.result in
     let h = c.in_err-read.ensures.means in
     let p = err_from_is_err_and c.from_residual.result c.from_residual.ensures.1 in
-    rw (p.1, p.2)
-    (
+    rw (p.1, p.2) (
       λ l. inl (
         _,
         refl,
