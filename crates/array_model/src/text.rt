@@ -5,7 +5,7 @@ ghost use Rattle.array_model.specs.Text.{state_text, layer_text, detail_text, re
 use super::answer::{Destage, FlushCounts, ResyncCounts, TakenStripe};
 use super::refusal::{ArrayRefusal, BoxLayer, Detail};
 use super::state::State;
-use member_store::refusal::Place;
+use block_address::Address;
 use std::fmt;
 
 impl fmt::Display for State {
@@ -40,7 +40,7 @@ impl fmt::Display for Detail {
 
     fn fmt<W: fmt::Write>(&self, f: &mut fmt::Formatter<W>) -> fmt::Result {
         match self {
-            Detail::At(Place { member, block }) => write!(f, "{member} {block}"),
+            Detail::At(Address { member, block }) => write!(f, "{member} {block}"),
             Detail::Counts(members, blocks) => write!(f, "{members} {blocks}"),
             Detail::In(state) => write!(f, "{state}"),
             Detail::Number(number) => write!(f, "{number}"),

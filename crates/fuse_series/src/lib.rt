@@ -8,6 +8,7 @@ ghost use Rattle.fuse.specs.Fused.{fused, Counts, Passes};
 ghost use Rattle.fuse_series.specs.Series.{next_setting, later_settings};
 ghost use Rattle.std.proofs.Common.{rules};
 
+use block_address::Address;
 use fuse::Fuse;
 use member_store::MemberStore;
 use member_store::refusal::Refusal;
@@ -81,12 +82,12 @@ impl<S: MemberStore> MemberStore for FuseSeries<S> {
         self.fuse.blocks()
     }
 
-    fn read(&mut self, member: usize, block: usize, into: &mut [u8]) -> Result<(), Refusal> {
-        self.fuse.read(member, block, into)
+    fn read(&mut self, at: Address, into: &mut [u8]) -> Result<(), Refusal> {
+        self.fuse.read(at, into)
     }
 
-    fn store(&mut self, member: usize, block: usize, bytes: &[u8]) -> Result<(), Refusal> {
-        self.fuse.store(member, block, bytes)
+    fn store(&mut self, at: Address, bytes: &[u8]) -> Result<(), Refusal> {
+        self.fuse.store(at, bytes)
     }
 
     fn barrier(&mut self) -> Result<(), Refusal> {

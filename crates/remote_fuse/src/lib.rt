@@ -10,6 +10,7 @@ ghost use Rattle.std.proofs.Common.{rules};
 
 pub mod switch;
 
+use block_address::Address;
 use fuse::Fuse;
 use member_store::MemberStore;
 use member_store::refusal::Refusal;
@@ -84,13 +85,13 @@ impl<S: MemberStore, W: Switch> MemberStore for RemoteFuse<S, W> {
         self.fuse.blocks()
     }
 
-    fn read(&mut self, member: usize, block: usize, into: &mut [u8]) -> Result<(), Refusal> {
-        self.fuse.read(member, block, into)
+    fn read(&mut self, at: Address, into: &mut [u8]) -> Result<(), Refusal> {
+        self.fuse.read(at, into)
     }
 
-    fn store(&mut self, member: usize, block: usize, bytes: &[u8]) -> Result<(), Refusal> {
+    fn store(&mut self, at: Address, bytes: &[u8]) -> Result<(), Refusal> {
         self.obey();
-        self.fuse.store(member, block, bytes)
+        self.fuse.store(at, bytes)
     }
 
     fn barrier(&mut self) -> Result<(), Refusal> {

@@ -16,15 +16,15 @@ pub first_out : (hs rest : List HeldStore) (h : HeldStore) → 0 < length hs →
 first_out [] rest h some e f = absurd (let z : ⊥ = omega arith in z)
 first_out (x ∷ xs) rest h some e f = cc
 
-pub appended_from : (hs more : List HeldStore) (h : HeldStore) (x : List ℕ) → more ≡ hs ++ h ∷ [] → h.bytes ≡ x → Appended hs h.member h.block x more
-appended_from hs more h x e f = ap (map content) e ∙ map_push content hs h ∙ ap (λ y. map content hs ++ (h.member, h.block, y) ∷ []) f
+pub appended_from : (hs more : List HeldStore) (h : HeldStore) (x : List ℕ) → more ≡ hs ++ h ∷ [] → h.bytes ≡ x → Appended hs h.at.member h.at.block x more
+appended_from hs more h x e f = ap (map content) e ∙ map_push content hs h ∙ ap (λ y. map content hs ++ (h.at.member, h.at.block, y) ∷ []) f
 
 -- a read of a block of which no store is held
 pub reads_below : {S : Type 0} (meaning : S → Meaning) (m b : ℕ) (old : List ℕ) (r : Result (Unit {0}) Refusal) (Q : Type 0) (held held' : List HeldStore) (s t : S) → checks (buffered held (meaning s)) m b (length old) ≡ None → holds held m b ≡ false → held' ≡ held → Q → BufferReads meaning m b old r Q held s held' t
 reads_below meaning m b old r Q held held' s t c h e q = rw (c, h) (e, q)
 
 module _ {S : Type 0} (meaning : S → Meaning) (storing : S → ℕ → ℕ → List ℕ → Result (Unit {0}) Refusal → S → Type 0) where
-  module _ (h : HeldStore) (s t : S) (r : Result (Unit {0}) Refusal) (means : Stores (meaning s) h.member h.block h.bytes r (meaning t)) (own : storing s h.member h.block h.bytes r t) where
+  module _ (h : HeldStore) (s t : S) (r : Result (Unit {0}) Refusal) (means : Stores (meaning s) h.at.member h.at.block h.bytes r (meaning t)) (own : storing s h.at.member h.at.block h.bytes r t) where
     pub oldest_gone : (hs left : List HeldStore) → hs ≡ h ∷ left → (meaning t).on ≡ true → PassesOldest meaning storing hs s None left t
     oldest_gone hs left e up = rw e ((r, means, own, sym (ap (λ q. power_refusal q r) up)), refl)
 

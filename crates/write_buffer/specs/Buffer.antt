@@ -11,7 +11,7 @@ use Rattle.write_buffer.specs.declared.held.HeldStore.{HeldStore}
 
 -- What a held store says: member, block and bytes.
 abbrev pub content : HeldStore → ℕ × ℕ × List ℕ
-content h = (h.member, h.block, h.bytes)
+content h = (h.at.member, h.at.block, h.bytes)
 
 -- r is the place of the newest held store to block b of member m, which has its current bytes, if there is one.
 abbrev pub Newest : List HeldStore → ℕ → ℕ → Option ℕ → Type 0

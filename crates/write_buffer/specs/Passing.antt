@@ -29,8 +29,8 @@ module _ {S : Type 0} (meaning : S → Meaning) (storing : S → ℕ → ℕ →
   abbrev pub PassesOne : HeldStore → S → Option Refusal → S → Type 0
   PassesOne h s o t =
       (r : Result (Unit {0}) Refusal)
-      × Stores (meaning s) h.member h.block h.bytes r (meaning t)
-      × storing s h.member h.block h.bytes r t
+      × Stores (meaning s) h.at.member h.at.block h.bytes r (meaning t)
+      × storing s h.at.member h.at.block h.bytes r t
       × (o ≡ power_refusal (meaning t).on r)
 
   -- Exactly the oldest of the held stores is passed below.

@@ -14,20 +14,21 @@ ghost use Rattle.std.proofs.Common.{rules, arith};
 pub mod buffer;
 pub mod held;
 
+use block_address::Address;
 use buffer::WriteBuffer;
 use held::HeldStore;
 use member_store::refusal::Refusal;
-use member_store::{BLOCK_BYTES, MemberStore, first_refusal};
+use member_store::{BLOCK_BYTES, MemberStore};
 use std::alloc::Global;
 
 /// How many stores are held at most.
 const CAPACITY: usize = 8;
 
 impl HeldStore {
-    fn is_to(&self, member: usize, block: usize) -> bool
-        ensures { result ≡ is_to self.now member block }
+    fn is_to(&self, at: Address) -> bool
+        ensures { result ≡ is_to self.now at.member at.block }
     {
-        (self.member == member) & (self.block == block)
+        self.at == at
     }
 }
 
@@ -58,22 +59,22 @@ impl<S: MemberStore> WriteBuffer<S> {
     }
 
     /// The bytes of the newest held store to a block, whatever the power; none where none is held.
-    pub fn held_bytes(&self, member: usize, block: usize) -> Option<&[u8; 512]>
-        ensures { MatchOption result (holds self.now.held.items member block ≡ false) (λ x. (holds self.now.held.items member block ≡ true) × (x.now ≡ current (buffered self.now.held.items (S.MemberStore.meaning self.now.below)) member block)) }
+    pub fn held_bytes(&self, at: Address) -> Option<&[u8; 512]>
+        ensures { MatchOption result (holds self.now.held.items at.member at.block ≡ false) (λ x. (holds self.now.held.items at.member at.block ≡ true) × (x.now ≡ current (buffered self.now.held.items (S.MemberStore.meaning self.now.below)) at.member at.block)) }
     {
-        match self.newest(member, block) {
+        match self.newest(at) {
             Some(i) => Some(&self.held[i].bytes),
             None => None,
         }
     }
 
     // The place of the newest held store to a block.
-    fn newest(&self, member: usize, block: usize) -> Option<usize>
-        ensures { Newest self.now.held.items member block result }
+    fn newest(&self, at: Address) -> Option<usize>
+        ensures { Newest self.now.held.items at.member at.block result }
     {
         let mut found = None;
         for (i, h) in self.held.iter().enumerate() {
-            if h.is_to(member, block) {
+            if h.is_to(at) {
                 found = Some(i);
             }
         }
@@ -89,7 +90,7 @@ impl<S: MemberStore> WriteBuffer<S> {
         ensures len { MatchOption result (vec_len self.new.held + 1 ≡ vec_len self.old.held) (λ _. vec_len self.new.held ≡ vec_len self.old.held) }
     {
         let oldest = self.held[0];
-        let answer = self.below.store(oldest.member, oldest.block, &oldest.bytes);
+        let answer = self.below.store(oldest.at, &oldest.bytes);
         if !self.below.powered() {
             return answer.err();
         }
@@ -126,19 +127,18 @@ impl<S: MemberStore> WriteBuffer<S> {
     }
 
     // Holds a store after the others.
-    fn hold(&mut self, member: usize, block: usize, bytes: &[u8])
+    fn hold(&mut self, at: Address, bytes: &[u8])
         requires room { vec_len self.old.held < 8 }
         requires on { (S.MemberStore.meaning self.old.below).on ≡ true }
         requires whole { length bytes.now ≡ 512 }
-        ensures appended { Appended self.old.held.items member block bytes.now self.new.held.items }
-        ensures stored { Stored (buffered self.old.held.items (S.MemberStore.meaning self.old.below)) member block bytes.now (buffered self.new.held.items (S.MemberStore.meaning self.new.below)) }
+        ensures appended { Appended self.old.held.items at.member at.block bytes.now self.new.held.items }
+        ensures stored { Stored (buffered self.old.held.items (S.MemberStore.meaning self.old.below)) at.member at.block bytes.now (buffered self.new.held.items (S.MemberStore.meaning self.new.below)) }
         ensures below { self.new.below ≡ self.old.below }
     {
         let mut copy = [0u8; BLOCK_BYTES];
         copy.copy_from_slice(bytes);
         self.held.push_reserved(HeldStore {
-            member,
-            block,
+            at,
             bytes: copy,
         });
     }
@@ -158,20 +158,6 @@ impl<S: MemberStore> WriteBuffer<S> {
         ensures below { self.new.below ≡ self.old.below }
     {
         self.held.clear();
-    }
-
-    // The checks of a read or a store of `len` bytes.
-    fn refusal_of(&self, member: usize, block: usize, len: usize) -> Option<Refusal>
-        ensures { result ≡ checks (buffered self.now.held.items (S.MemberStore.meaning self.now.below)) member block len }
-    {
-        first_refusal(
-            self.powered(),
-            self.members(),
-            self.blocks(),
-            member,
-            block,
-            len,
-        )
     }
 }
 
@@ -204,27 +190,23 @@ impl<S: MemberStore> MemberStore for WriteBuffer<S> {
         self.below.blocks()
     }
 
-    fn read(&mut self, member: usize, block: usize, into: &mut [u8]) -> Result<(), Refusal> {
-        if let Some(e) = self.refusal_of(member, block, into.len()) {
-            return Err(e);
-        }
-        match self.newest(member, block) {
+    fn read(&mut self, at: Address, into: &mut [u8]) -> Result<(), Refusal> {
+        self.check_access(at, into.len())?;
+        match self.newest(at) {
             Some(i) => {
                 into.copy_from_slice(&self.held[i].bytes);
                 Ok(())
             }
-            None => self.below.read(member, block, into),
+            None => self.below.read(at, into),
         }
     }
 
-    fn store(&mut self, member: usize, block: usize, bytes: &[u8]) -> Result<(), Refusal> {
-        if let Some(e) = self.refusal_of(member, block, bytes.len()) {
-            return Err(e);
-        }
+    fn store(&mut self, at: Address, bytes: &[u8]) -> Result<(), Refusal> {
+        self.check_access(at, bytes.len())?;
         if let Some(e) = self.make_room() {
             return Err(e);
         }
-        self.hold(member, block, bytes);
+        self.hold(at, bytes);
         Ok(())
     }
 

@@ -9,10 +9,10 @@ use Rattle.array_work.proofs.destage.write_stripe.Goals as goal
 
 pub returns : goal.returns
 returns g c =
-    let m = members_of c.args.shape in
-    let n = blocks_of c.args.shape in
+    let m = members_of c.args.geometry.now.shape in
+    let n = blocks_of c.args.geometry.now.shape in
     let f = by_position m n (contents c.args.caches.now).destaging c.args.stripe in
-    let most : m ≤ 8 = c.args.shape.members.most in
+    let most : m ≤ 8 = c.args.geometry.now.shape.members.most in
     destages_same g.L.Layout.arrangement m n c.args.stripe (cached_in c.cached_blocks-cached.result) f (g.S.MemberStore.meaning c.args.store.now) c.destage_stripe.result (g.S.MemberStore.meaning c.destage_stripe.new.store)
     (λ j h. let l : j < 7 = omega arith in
     c.cached_blocks-cached.ensures j l

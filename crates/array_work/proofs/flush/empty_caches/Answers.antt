@@ -12,32 +12,32 @@ use Rattle.array_work.proofs.flush.empty_caches.Goals as goal
 
 pub loop-counts-init : goal.loop-counts-init
 loop-counts-init g c =
-    let f : left_in (members_of c.args.shape) (blocks_of c.args.shape) (contents c.args.caches.now) ≤ 352321536 = few_left (members_of c.args.shape) (blocks_of c.args.shape) (contents c.args.caches.now) c.args.shape.members.most c.args.shape.few in
+    let f : left_in (members_of c.args.geometry.now.shape) (blocks_of c.args.geometry.now.shape) (contents c.args.caches.now) ≤ 352321536 = few_left (members_of c.args.geometry.now.shape) (blocks_of c.args.geometry.now.shape) (contents c.args.caches.now) c.args.geometry.now.shape.members.most c.args.geometry.now.shape.few in
     let zero = c.default-counts.ensures in (λ h. h, λ h on. (on, rw (zero.0, zero.1) begin), omega arith)
 
 pub loop-counts-smaller-in-Moved : goal.loop-counts-smaller-in-Moved
 loop-counts-smaller-in-Moved g c =
-    let m = members_of c.args.shape in
-    let n = blocks_of c.args.shape in
+    let m = members_of c.args.geometry.now.shape in
+    let n = blocks_of c.args.geometry.now.shape in
     let b = contents c.loop-counts.caches in
     let d = contents c.destage_once.new.caches in
     falls_moved m n b d c.in-Moved.field-0 (subst (λ a. After m n b a d) c.in-Moved.is c.in_ok-destage_once.ensures.caches)
 
 pub loop-counts-smaller : goal.loop-counts-smaller
 loop-counts-smaller g c =
-    let m = members_of c.args.shape in
-    let n = blocks_of c.args.shape in
+    let m = members_of c.args.geometry.now.shape in
+    let n = blocks_of c.args.geometry.now.shape in
     let b = contents c.loop-counts.caches in
     let d = contents c.destage_once.new.caches in
     falls_changed m n b d c.in-Changed.puts (subst (λ a. After m n b a d) c.in-Changed.is c.in_ok-destage_once.ensures.caches)
 
 pub loop-counts-preserved-in-Moved : goal.loop-counts-preserved-in-Moved
 loop-counts-preserved-in-Moved g c =
-    let m = members_of c.args.shape in
-    let n = blocks_of c.args.shape in
+    let m = members_of c.args.geometry.now.shape in
+    let n = blocks_of c.args.geometry.now.shape in
     let b = contents c.loop-counts.caches in
     let d = contents c.destage_once.new.caches in
-    let a = sized g.L.Layout.arrangement c.args.shape in
+    let a = sized g.L.Layout.arrangement c.args.geometry.now.shape in
     let z = array Ready (contents c.args.caches.now) (g.S.MemberStore.meaning c.args.store.now) (g.G.IntentLog.meaning c.args.log.now) in
     let u = g.S.MemberStore.meaning c.loop-counts.store in
     let l = g.G.IntentLog.meaning c.loop-counts.log in
@@ -55,11 +55,11 @@ loop-counts-preserved-in-Moved g c =
 
 pub loop-counts-preserved : goal.loop-counts-preserved
 loop-counts-preserved g c =
-    let m = members_of c.args.shape in
-    let n = blocks_of c.args.shape in
+    let m = members_of c.args.geometry.now.shape in
+    let n = blocks_of c.args.geometry.now.shape in
     let b = contents c.loop-counts.caches in
     let d = contents c.destage_once.new.caches in
-    let a = sized g.L.Layout.arrangement c.args.shape in
+    let a = sized g.L.Layout.arrangement c.args.geometry.now.shape in
     let z = array Ready (contents c.args.caches.now) (g.S.MemberStore.meaning c.args.store.now) (g.G.IntentLog.meaning c.args.log.now) in
     let u = g.S.MemberStore.meaning c.loop-counts.store in
     let l = g.G.IntentLog.meaning c.loop-counts.log in
@@ -81,7 +81,7 @@ pub returns-in-Idle : goal.returns-in-Idle
 returns-in-Idle g c =
     let b = contents c.loop-counts.caches in
     let d = contents c.destage_once.new.caches in
-    let a = sized g.L.Layout.arrangement c.args.shape in
+    let a = sized g.L.Layout.arrangement c.args.geometry.now.shape in
     let z = array Ready (contents c.args.caches.now) (g.S.MemberStore.meaning c.args.store.now) (g.G.IntentLog.meaning c.args.log.now) in
     let u = g.S.MemberStore.meaning c.loop-counts.store in
     let l = g.G.IntentLog.meaning c.loop-counts.log in

@@ -7,7 +7,7 @@ use Rattle.array_work.proofs.flush.flush_all.Goals as goal
 
 pub returns-in_err-barrier-clause-does : goal.returns-in_err-barrier-clause-does
 returns-in_err-barrier-clause-does g c h on =
-    let a = sized g.L.Layout.arrangement c.args.shape in
+    let a = sized g.L.Layout.arrangement c.args.geometry.now.shape in
     let b = contents c.empty_caches.new.caches in
     let m = g.S.MemberStore.meaning c.empty_caches.new.store in
     let l = g.G.IntentLog.meaning c.empty_caches.new.log in

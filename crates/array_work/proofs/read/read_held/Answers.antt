@@ -7,7 +7,7 @@ use Rattle.array_work.proofs.read.read_held.Goals as goal
 
 pub returns-in_err-read : goal.returns-in_err-read
 returns-in_err-read g c =
-    let a = sized g.L.Layout.arrangement c.args.shape in
+    let a = sized g.L.Layout.arrangement c.args.geometry.now.shape in
     let at = c.block_address-at.result in
     let h = c.in_err-read.ensures.means in
     let p = err_from_is_err_and c.from_residual.result c.from_residual.ensures.1 in

@@ -1,4 +1,5 @@
-use Rattle.std.proofs.Common.{◌≡◌, ℕ, ◌+◌, ◌-◌, ◌<◌, List, length, take, set, sym, refl, ap, ◌∙◌, subst, arith, rules}
+use Rattle.std.proofs.Common.{Err, ◌≡◌, ℕ, ◌+◌, ◌-◌, ◌<◌, List, length, take, set, sym, refl, ap, ◌∙◌, subst, arith, rules}
+use Rattle.geometry.specs.Counts.{counted}
 use Rattle.parity.specs.Xor.{without}
 use Rattle.member_store.specs.Meaning.{current}
 use Rattle.device_calls.specs.Lists.{Completed}
@@ -7,14 +8,14 @@ use Rattle.stripe_work.specs.Work.{other_reads}
 use Rattle.stripe_work.proofs.Without.{rest_absent, rest_length, rest_room, rest_row, rest_count}
 use Rattle.stripe_work.proofs.Recovering.{pass_absent, more_other, stop_other}
 use Rattle.stripe_work.proofs.reconstruct.read_others.Goals as goal
-use Rattle.stripe_work.proofs.reconstruct.read_others.Goals.{then-member-absent+in_default, else-member-absent}
+use Rattle.stripe_work.proofs.reconstruct.read_others.Goals.{then-member-absent+in_ok-read_block, else-member-absent}
 
 pub offset_bounds-rows-count : goal.offset_bounds-rows-count
 offset_bounds-rows-count g c =
     let s = g.S.MemberStore.meaning c.args.store.now in
     let b = c.args.absent.block in
     let d = c.args.absent.member in
-    let few : length (without d (row_blocks c.loop-member.member b s)) < 7 = rest_room (λ t. current s t b) d c.args.members c.loop-member.member c.requires.0 c.requires.1 c.loop-member-test.true c.if-member-absent.true in
+    let few : length (without d (row_blocks c.loop-member.member b s)) < 7 = rest_room (λ t. current s t b) d (counted c.args.members) c.loop-member.member (omega arith) c.requires (omega arith) c.if-member-absent.true in
     let count : c.loop-member.count < 7 = subst (λ (n : ℕ). n < 7) (sym c.loop-member.invariant.3) few in
     omega arith
 
@@ -23,7 +24,7 @@ bounds-rows-count g c =
     let s = g.S.MemberStore.meaning c.args.store.now in
     let b = c.args.absent.block in
     let d = c.args.absent.member in
-    let few : length (without d (row_blocks c.loop-member.member b s)) < 7 = rest_room (λ t. current s t b) d c.args.members c.loop-member.member c.requires.0 c.requires.1 c.loop-member-test.true c.if-member-absent.true in
+    let few : length (without d (row_blocks c.loop-member.member b s)) < 7 = rest_room (λ t. current s t b) d (counted c.args.members) c.loop-member.member (omega arith) c.requires (omega arith) c.if-member-absent.true in
     let count : c.loop-member.count < 7 = subst (λ (n : ℕ). n < 7) (sym c.loop-member.invariant.3) few in
     omega (arith, c.loop-member.invariant.2)
 
@@ -32,7 +33,7 @@ overflow_add-count g c =
     let s = g.S.MemberStore.meaning c.args.store.now in
     let b = c.args.absent.block in
     let d = c.args.absent.member in
-    let few : length (without d (row_blocks c.loop-member.member b s)) < 7 = rest_room (λ t. current s t b) d c.args.members c.loop-member.member c.requires.0 c.requires.1 c.loop-member-test.true c.if-member-absent.true in
+    let few : length (without d (row_blocks c.loop-member.member b s)) < 7 = rest_room (λ t. current s t b) d (counted c.args.members) c.loop-member.member (omega arith) c.requires (omega arith) c.if-member-absent.true in
     let count : c.loop-member.count < 7 = subst (λ (n : ℕ). n < 7) (sym c.loop-member.invariant.3) few in
     omega arith
 
@@ -48,10 +49,10 @@ loop-member-preserved g c =
     let i = c.loop-member.invariant in
     let cell : ℕ → List ℕ = (λ t. current s t b) in
     elim c.if-member-absent.branch [
-      | then-member-absent+in_default v ↦
+      | then-member-absent+in_ok-read_block v ↦
           let ne = v.if-member-absent.true in
-          let r = v.in_default.ensures in
-          let few = rest_room cell d c.args.members t c.requires.0 c.requires.1 c.loop-member-test.true ne in
+          let r = v.in_ok-read_block.ensures in
+          let few = rest_room cell d (counted c.args.members) t (omega arith) c.requires (omega arith) ne in
           let long : length (without d (row_blocks t b s)) < length c.loop-member.rows = omega (arith, few, i.2) in
           let got : v.read_block.new.into ≡ cell t = r.bytes.0 ∙ ap (λ u. current u t b) i.0 in
           let more : length (without d (row_blocks t b s)) + 1 ≡ length (without d (row_blocks (t + 1) b s)) = rest_count cell d t ne in
@@ -76,24 +77,25 @@ loop-member-preserved g c =
           )
     ]
 
-pub returns-in-Err : goal.returns-in-Err
-returns-in-Err g c =
+pub returns-in_err-read_block-clause-calls : goal.returns-in_err-read_block-clause-calls
+returns-in_err-read_block-clause-calls g c =
     let s = g.S.MemberStore.meaning c.args.store.now in
-    record {
-      calls = stop_other c.args.absent.block c.args.absent.member s c.loop-member.member c.args.members (g.S.MemberStore.meaning c.loop-member.store) (g.S.MemberStore.meaning c.read_block.new.store) c.in-Err.e
-          c.loop-member-test.true c.if-member-absent.true c.loop-member.invariant.0 c.in-Err.ensures.calls c.loop-member.invariant.1;
-      rows = tt;
-    }
+    let m = counted c.args.members in
+    let l : c.loop-member.member < m = omega arith in
+    let e = c.in_err-read_block.field-0.0 in
+    let r : c.from_residual.result ≡ Err e = search rules in
+    rw r (stop_other c.args.absent.block c.args.absent.member s c.loop-member.member m (g.S.MemberStore.meaning c.loop-member.store) (g.S.MemberStore.meaning c.read_block.new.store) e
+    l c.if-member-absent.true c.loop-member.invariant.0 c.in_err-read_block.ensures.calls c.loop-member.invariant.1)
 
 pub returns : goal.returns
 returns g c =
     let s = g.S.MemberStore.meaning c.args.store.now in
     let b = c.args.absent.block in
     let d = c.args.absent.member in
-    let m = c.args.members in
+    let m = (counted c.args.members) in
     let i = c.loop-member.invariant in
     let e : c.loop-member.member ≡ m = omega arith in
-    let long = rest_length (λ t. current s t b) d m c.requires.1 in
+    let long = rest_length (λ t. current s t b) d m c.requires in
     let count : length (without d (row_blocks m b s)) ≡ m - 1 = omega (arith, long) in
     let row = subst (λ (n : ℕ). take (length (without d (row_blocks n b s))) c.loop-member.rows ≡ without d (row_blocks n b s)) e i.4 in
     record {

@@ -8,8 +8,8 @@ pub returns-in-None : goal.returns-in-None
 returns-in-None g c =
     let w = c.args.self.now in
     let s = g.S.MemberStore.meaning w.below in
-    let m = c.args.member in
-    let b = c.args.block in
+    let m = c.args.at.member in
+    let b = c.args.at.block in
     let none = c.in-None.ensures in
     record {
       means = reads_under (vec_items w.held) s (g.S.MemberStore.meaning c.read.new.self) m b c.args.into.now c.read.new.into c.read.result (current_below (vec_items w.held) s m b none) c.read.ensures.means;

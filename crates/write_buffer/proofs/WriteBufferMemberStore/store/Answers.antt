@@ -13,7 +13,7 @@ returns-in-Some-make_room g c =
     let told = c.in-Some-make_room.ensures in
     record {
       means = refused_went _ _ _ _ passed (told.means.0, cut_store _ _ _ _ _ told.means.1);
-      own = stores_stopped g.S.MemberStore.meaning g.S.MemberStore.storing c.args.member c.args.block c.args.bytes.now (vec_items w.held) (vec_items u.held) w.below u.below c.in-Some-make_room.e passed told.makes;
+      own = stores_stopped g.S.MemberStore.meaning g.S.MemberStore.storing c.args.at.member c.args.at.block c.args.bytes.now (vec_items w.held) (vec_items u.held) w.below u.below c.in-Some-make_room.e passed told.makes;
     }
 
 pub returns : goal.returns
@@ -22,8 +22,8 @@ returns g c =
     let w = c.args.self.now in
     let u = c.make_room.new.self in
     let v = c.hold.new.self in
-    let m = c.args.member in
-    let b = c.args.block in
+    let m = c.args.at.member in
+    let b = c.args.at.block in
     let x = c.args.bytes.now in
     let passed = sym c.in_default.ensures in
     let told = c.in_default-make_room.ensures in

@@ -8,8 +8,8 @@ use Rattle.memory_store.proofs.memory.MemoryStore.put.Goals as goal
 pub returns : goal.returns
 returns c =
     let s = c.args.self.now in
-    let m = c.args.member in
-    let b = c.args.block in
+    let m = c.args.at.member in
+    let b = c.args.at.block in
     let x = c.args.bytes.now in
     let xs = vec_items s.bytes in
     let a = c.offset-start.result in

@@ -12,8 +12,8 @@ loop-i-preserved g c =
     let l : i < length xs = omega (arith, ap length c.deref-h-items.ensures.value) in
     let is = c.h-item.is ∙ ap (λ ys. get_or ys i h) c.deref-h-items.ensures.value in
     elim c.if-is_to.branch [
-      | then-is_to w ↦ simp w.found-is (newest_hit xs i c.args.member c.args.block h h l is (sym c.is_to.ensures ∙ w.if-is_to.true))
-      | else-is_to w ↦ simp w.found-is (newest_miss xs i c.args.member c.args.block h h l is (sym c.is_to.ensures ∙ w.if-is_to.false) c.loop-i.found c.loop-i.invariant)
+      | then-is_to w ↦ simp w.found-is (newest_hit xs i c.args.at.member c.args.at.block h h l is (sym c.is_to.ensures ∙ w.if-is_to.true))
+      | else-is_to w ↦ simp w.found-is (newest_miss xs i c.args.at.member c.args.at.block h h l is (sym c.is_to.ensures ∙ w.if-is_to.false) c.loop-i.found c.loop-i.invariant)
     ]
 
 pub returns : goal.returns
