@@ -6,6 +6,7 @@ use super::answer::{Destage, FlushCounts, ResyncCounts, TakenStripe};
 use super::refusal::{ArrayRefusal, BoxLayer, Detail};
 use super::state::State;
 use block_address::Address;
+use std::error::Error;
 use std::fmt;
 
 impl fmt::Display for State {
@@ -60,6 +61,8 @@ impl fmt::Display for ArrayRefusal {
         }
     }
 }
+
+impl Error for ArrayRefusal {}
 
 impl fmt::Display for TakenStripe {
     ghost output = { λ taken. Some (taken_text taken) };

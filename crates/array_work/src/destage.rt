@@ -21,15 +21,16 @@ use crate::refusal::device_refusal;
 use array_model::answer::Destage;
 use array_model::refusal::ArrayRefusal;
 use cache::caches::Caches;
-use cache::slot::BLOCK_BYTES;
 use geometry::array_geometry::Geometry;
 use geometry::layout::Layout;
-use geometry::shape::{MOST_MEMBERS, Shape};
+use geometry::shape::Shape;
 use intent_log::IntentLog;
 use member_store::MemberStore;
-use stripe_work::data::cached_blocks;
 use stripe_work::destage::destage_stripe;
 use stripe_work::refusal::StripeRefusal;
+
+// Kept: store, log and caches are lent one by one; a struct of three loans would be built of the array's fields at each
+// call and taken apart again.
 
 // Writes a stripe's blocks in the destaging cache to the members, then its parity.
 fn write_stripe<S: MemberStore, L: Layout>(
@@ -40,10 +41,7 @@ fn write_stripe<S: MemberStore, L: Layout>(
 ) -> Result<(), StripeRefusal>
     ensures { Destages L.Layout.arrangement (members_of geometry.now.shape) (blocks_of geometry.now.shape) stripe (by_position (members_of geometry.now.shape) (blocks_of geometry.now.shape) (contents caches.now).destaging stripe) (S.MemberStore.meaning store.old) result (S.MemberStore.meaning store.new) }
 {
-    let mut held = [false; MOST_MEMBERS];
-    let mut rows = [[0u8; BLOCK_BYTES]; MOST_MEMBERS];
-    caches.destaging_blocks(geometry.shape, stripe, &mut held, &mut rows);
-    let cached = cached_blocks(&held, &rows);
+    let cached = caches.destaging_blocks(geometry.shape, stripe);
     destage_stripe(store, geometry, stripe, &cached)
 }
 

@@ -18,7 +18,7 @@ use member_store::{BLOCK_BYTES, MemberStore};
 fn zero_member<S: MemberStore>(store: &mut S, member: usize, blocks: usize) -> Result<(), Refusal>
     ensures { Performs (for_each (λ b. store_call member b zeros ∷ []) blocks) (S.MemberStore.meaning store.old) result (S.MemberStore.meaning store.new) }
 {
-    let zero = [0u8; BLOCK_BYTES];
+    let zero = [0; BLOCK_BYTES];
     for block in 0..blocks {
         store.store(Address { member, block }, &zero)?;
     }

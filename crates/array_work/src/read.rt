@@ -22,6 +22,9 @@ use geometry::shape::Shape;
 use member_store::{BLOCK_BYTES, MemberStore};
 use stripe_work::reconstruct::reconstruct_block;
 
+// Kept: the bound of a block's number and the length of a buffer stand in four contracts; the array's checks show both just
+// before, and types for them would be made there only to be taken apart here.
+
 // Where a block of the array lies.
 fn block_address<L: Layout>(geometry: &Geometry<L>, block: usize) -> Address
     requires { block < data_blocks (members_of geometry.now.shape) (blocks_of geometry.now.shape) }
@@ -75,7 +78,7 @@ fn read_missing<S: MemberStore, L: Layout>(
     requires { (address_check (members_of geometry.now.shape) (blocks_of geometry.now.shape) at ≡ NoneOf) × (length into.old ≡ 512) }
     ensures { Fetched (other_reads (members_of geometry.now.shape) at.block at.member) (reconstructed (members_of geometry.now.shape) at.block at.member (S.MemberStore.meaning store.old)) into.old into.new (S.MemberStore.meaning store.old) result (S.MemberStore.meaning store.new) }
 {
-    let mut bytes = [0u8; BLOCK_BYTES];
+    let mut bytes = [0; BLOCK_BYTES];
     reconstruct_block(store, geometry, at, &mut bytes).map_err(device_refusal)?;
     into.copy_from_slice(&bytes);
     Ok(())
