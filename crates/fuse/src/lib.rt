@@ -8,8 +8,8 @@ ghost use Rattle.fuse.specs.Fused.{fused, blows as blows_at, less, Counts, Passe
 ghost use Rattle.std.proofs.Common.{rules};
 
 use block_address::Address;
+use member_store::MemberStore;
 use member_store::refusal::Refusal;
-use member_store::{MemberStore};
 
 /// A store that loses power when its setting is used up; without a setting it never does.
 #[derive(Drop)]
@@ -17,6 +17,7 @@ pub struct Fuse<S> {
     below: S,
     // how many stores and barriers may still act
     left: Option<usize>,
+    // Kept: no enum of states takes the place of the two, since a blown fuse also holds the setting that `set` gives it.
     blown: bool,
 }
 
@@ -52,11 +53,7 @@ impl<S: MemberStore> Fuse<S> {
     pub fn into_below(self) -> S
         ensures { result ≡ self.below }
     {
-        let Fuse {
-            below,
-            left: _,
-            blown: _,
-        } = self;
+        let Fuse { below, .. } = self;
         below
     }
 

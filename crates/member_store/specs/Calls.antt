@@ -1,5 +1,5 @@
 -- What each call of a member store does, as a relation between what it meant before (s) and means after (t).
-use Rattle.std.specs.Prelude.{◌≡◌, ℕ, Bool, true, false, cond, ◌⊎◌, List, length, Some, None, Ok, Err, Option, Result, ◌==◌, nat_lt}
+use Rattle.std.specs.Prelude.{◌≡◌, ℕ, Bool, true, false, cond, ◌⊎◌, List, length, Some, None, Option, Result, ◌==◌, nat_lt}
 use Rattle.std.specs.Option as options
 use Rattle.std.specs.Result as results
 use Rattle.member_store.specs.Meaning.{Meaning, current, Version, HasBlock}
@@ -18,11 +18,6 @@ checked on members blocks m b n =
 
 abbrev pub checks : Meaning → ℕ → ℕ → ℕ → Option Refusal
 checks s m b n = checked s.on s.members s.blocks m b n
-
--- What checks answer: the refusal that they name, if any.
-abbrev pub verdict : Option Refusal → Result (Unit {0}) Refusal
-verdict None = Ok tt
-verdict (Some e) = Err e
 
 -- The check of a barrier.
 abbrev pub barrier_checks : Meaning → Option Refusal

@@ -1,11 +1,11 @@
 // Member stores: the interface, what its calls mean, and why they are refused.
 #![tactic(auto)]
 
-ghost use Rattle.std.specs.Prelude.{◌≡◌, ℕ, ◌≤◌, List, length, Result as Answer};
+ghost use Rattle.std.specs.Prelude.{◌≡◌, ℕ, ◌≤◌, List, length, Some, None, MatchResult, Result as Answer};
 ghost use Rattle.member_store.specs.declared.refusal.Refusal.{Refusal as Cause};
 ghost use Rattle.member_store.specs.Meaning.{Meaning, current, Version, HasBlock};
 ghost use Rattle.member_store.specs.Refusals.{number as number_of, place as place_of};
-ghost use Rattle.member_store.specs.Calls.{checks, verdict, Reads, Stores, Bars, PoweredOn};
+ghost use Rattle.member_store.specs.Calls.{checks, Reads, Stores, Bars, PoweredOn};
 
 pub mod refusal;
 pub mod text;
@@ -66,7 +66,7 @@ pub trait MemberStore {
 
     /// The checks of a read or a store of `len` bytes at a block, in their order: power, member, block, length.
     fn check_access(&self, at: Address, len: usize) -> Result<(), Refusal>
-        ensures { result ≡ verdict (checks (meaning self.now) at.member at.block len) }
+        ensures { MatchResult result (λ _. checks (meaning self.now) at.member at.block len ≡ None) (λ e. checks (meaning self.now) at.member at.block len ≡ Some e) }
     {
         if !self.powered() {
             return Err(Refusal::PowerOff(Some(at)));

@@ -32,10 +32,7 @@ impl BadCounts {
 fn fits(members: usize, blocks: usize, len: usize) -> bool
     ensures { Tells result (Fits members blocks len) }
 {
-    if members == 0 || blocks == 0 {
-        return false;
-    }
-    members <= len / BLOCK_BYTES / blocks
+    members > 0 && blocks > 0 && members <= len / BLOCK_BYTES / blocks
 }
 
 impl MemoryStore {
@@ -61,11 +58,7 @@ impl MemoryStore {
     pub fn into_bytes(self) -> Vec<u8>
         ensures { result ≡ self.bytes }
     {
-        let MemoryStore {
-            members: _,
-            blocks: _,
-            bytes,
-        } = self;
+        let MemoryStore { bytes, .. } = self;
         bytes
     }
 

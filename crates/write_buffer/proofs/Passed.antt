@@ -127,14 +127,6 @@ module _ (s t u : Meaning) (h : FewerVersions s t) where
     former = λ m b v p j. h.former m b v p (k.former m b v (place p) j);
   }
 
-pub fewer_none : (s : Meaning) → FewerVersions s s
-fewer_none s = record {
-  on = refl;
-  sized = record { members = refl; blocks = refl };
-  same = λ m b p. refl;
-  former = λ m b v p k. k;
-}
-
 -- power going before the store is a cut store that added nothing
 pub cut_store : (s t : Meaning) (m b : ℕ) (x : List ℕ) → Cut s t → CutStore s m b x t
 cut_store s t m b x k = record { off = k.off; sized = k.sized; former = λ i j v p e. inl (k.former i j v p e) }
