@@ -33,9 +33,9 @@ pub(super) fn read_data<S: MemberStore, L: Layout>(
     ensures calls { Performs (data_reads (stripe_at L.Layout.arrangement (members_of stripe.now.geometry.shape) stripe.now.number) (cached_in cached.now)) (S.MemberStore.meaning store.old) result (S.MemberStore.meaning store.new) }
     ensures rows { OnOk result (take (members_of stripe.now.geometry.shape - 1) rows.new ≡ merged_data (stripe_at L.Layout.arrangement (members_of stripe.now.geometry.shape) stripe.now.number) (cached_in cached.now) (S.MemberStore.meaning store.old)) }
 {
-    for position in 0..stripe.positions() {
-        match cached[position] {
-            Some(block) => rows[position] = block,
+    for (position, block) in cached[..stripe.positions()].iter().enumerate() {
+        match block {
+            Some(block) => rows[position] = *block,
             None => read_block(store, stripe.data_address(position), &mut rows[position])?,
         }
     }
@@ -60,8 +60,8 @@ pub(super) fn store_cached<S: MemberStore, L: Layout>(
 ) -> Result<(), Refusal>
     ensures { Performs (data_stores (stripe_at L.Layout.arrangement (members_of stripe.now.geometry.shape) stripe.now.number) (cached_in cached.now)) (S.MemberStore.meaning store.old) result (S.MemberStore.meaning store.new) }
 {
-    for position in 0..stripe.positions() {
-        if let Some(block) = &cached[position] {
+    for (position, block) in cached[..stripe.positions()].iter().enumerate() {
+        if let Some(block) = block {
             store_block(store, stripe.data_address(position), block)?;
         }
     }

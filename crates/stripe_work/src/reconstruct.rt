@@ -1,6 +1,7 @@
 // Working one member's block out of the others, without touching that member.
 ghost use Rattle.std.specs.Prelude.{◌≡◌, ℕ, ◌-◌, ◌<◌, take, OnOk};
 ghost use Rattle.geometry.specs.Counts.{counted, members_of, blocks_of};
+ghost use Rattle.geometry.specs.Layouts.{restarted};
 ghost use Rattle.parity.specs.Xor.{without};
 ghost use Rattle.device_calls.specs.Lists.{Performs};
 ghost use Rattle.stripe_work.specs.Stripe.{row_blocks};
@@ -18,6 +19,14 @@ use member_store::refusal::Refusal;
 use member_store::{BLOCK_BYTES, MemberStore};
 use parity::missing_block;
 
+// The member whose block goes into a row: the rows are by member and pass over the absent one.
+fn other_member(absent: usize, row: usize) -> usize
+    requires { row < 7 }
+    ensures { result ≡ restarted absent row }
+{
+    if row < absent { row } else { row + 1 }
+}
+
 // Reads the same block of each of the members but one, into rows, by member.
 fn read_others<S: MemberStore>(
     store: &mut S,
@@ -29,12 +38,9 @@ fn read_others<S: MemberStore>(
     ensures calls { Performs (other_reads (counted members) absent.block absent.member) (S.MemberStore.meaning store.old) result (S.MemberStore.meaning store.new) }
     ensures rows { OnOk result (take (counted members - 1) rows.new ≡ without absent.member (row_blocks (counted members) absent.block (S.MemberStore.meaning store.old))) }
 {
-    let mut count = 0;
-    for member in 0..members.get() {
-        if member != absent.member {
-            read_block(store, Address { member, ..absent }, &mut rows[count])?;
-            count += 1;
-        }
+    for row in 0..members.positions() {
+        let member = other_member(absent.member, row);
+        read_block(store, Address { member, ..absent }, &mut rows[row])?;
     }
     Ok(())
 }

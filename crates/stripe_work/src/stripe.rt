@@ -14,7 +14,7 @@ use geometry::place::Location;
 pub struct Stripe<'a, L> {
     pub geometry: Geometry<'a, L>,
     pub number: usize,
-    ghost inside: { number < stripe_count (blocks_of geometry.shape) },
+    pub ghost inside: { number < stripe_count (blocks_of geometry.shape) },
 }
 
 impl<'a, L: Layout> Stripe<'a, L> {
