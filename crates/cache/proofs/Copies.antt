@@ -1,5 +1,5 @@
 -- The blocks of a stripe, by position. Assumes nothing.
-use Rattle.std.proofs.Common.{◌≡◌, ℕ, zero, suc, ◌+◌, ◌-◌, ◌<◌, ◌≤◌, Bool, true, false, cond, ltb, List, length, get_or, Some, None, Option, sym, refl, ap, ◌∙◌, subst, ⊎_elim, arith}
+use Rattle.std.proofs.Common.{◌≡◌, ℕ, zero, suc, ◌+◌, ◌-◌, ◌<◌, ◌≤◌, cond, ltb, List, length, get_or, Some, None, Option, sym, ap, ◌∙◌, subst, ⊎_elim, arith}
 use native.Mathlib.Decide.{ℕ_discrete}
 use denote.Param.Members.{Mut}
 use Rattle.std.specs.Fn.{Called}
@@ -9,14 +9,11 @@ use Rattle.std.proofs.lemmas.Bool.{le-ltb, cases_lt}
 use Rattle.geometry.specs.Places.{block_number}
 use Rattle.cache.specs.Contents.{Blocks}
 use Rattle.cache.specs.Stripes.{looked_up, by_position}
-
-past_end : (q : Bool) → ◌≡◌ {A = Option ℕ} (cond q None None) None
-past_end true = refl
-past_end false = refl
+use Rattle.cache.proofs.Places.{cond_none}
 
 -- no stripe has more positions than 7
 no_position : (m n : ℕ) (f : Blocks) (s j : ℕ) → m - 1 ≤ j → by_position m n f s j ≡ None
-no_position m n f s j l = ap (looked_up f) (ap (λ q. cond (ltb s n) (cond q (Some (block_number m s j)) None) None) (le-ltb j (m - 1) l) ∙ past_end (ltb s n))
+no_position m n f s j l = ap (looked_up f) (ap (λ q. cond (ltb s n) (cond q (Some (block_number m s j)) None) None) (le-ltb j (m - 1) l) ∙ cond_none (ltb s n))
 
 pub all_positions : (m n : ℕ) (f : Blocks) (s : ℕ) (ys : List (Option (List ℕ))) → m ≤ 8 → length ys ≡ 7 → ((j : ℕ) → j < 7 → get_or ys j None ≡ by_position m n f s j) → (j : ℕ) → get_or ys j None ≡ by_position m n f s j
 all_positions m n f s ys h w c j = ⊎_elim (λ l. c j l) (λ l. get_or_past ys j None (omega arith) ∙ sym (no_position m n f s j (omega arith))) (cases_lt j 7)

@@ -54,8 +54,8 @@ one_cache Destaging k bs ds = omega arith
 
 counts_in_all : (xs : List Slot) → count_by is_none xs + length (owned Buffering xs) + length (owned Destaging xs) ≡ length xs
 counts_in_all [] = refl
-counts_in_all (None ∷ xs) = let b = counts_in_all xs in let s = count_step None xs in omega arith
-counts_in_all (Some e ∷ xs) = let a = one_cache e.cache e.block (owned Buffering xs) (owned Destaging xs) in let b = counts_in_all xs in let s = count_step (Some e) xs in omega arith
+counts_in_all (None ∷ xs) = let b = counts_in_all xs in omega (arith, count_step)
+counts_in_all (Some e ∷ xs) = let a = one_cache e.cache e.block (owned Buffering xs) (owned Destaging xs) in let b = counts_in_all xs in omega (arith, count_step)
 
 pub shared : (xs : List Slot) → length xs ≡ 32 → each_once Buffering xs ≡ true → each_once Destaging xs ≡ true → Shared (contents_of xs)
 shared xs w u v = record {

@@ -31,8 +31,8 @@ module _ (o : Cache) where
 
 exchanged_free : (xs : List Slot) → count_by is_none (map slot_exchanged xs) ≡ count_by is_none xs
 exchanged_free [] = refl
-exchanged_free (None ∷ xs) = let b = exchanged_free xs in let s = count_step None xs in let t = count_step None (map slot_exchanged xs) in omega arith
-exchanged_free (Some e ∷ xs) = let b = exchanged_free xs in let s = count_step (Some e) xs in let t = count_step (slot_exchanged (Some e)) (map slot_exchanged xs) in omega arith
+exchanged_free (None ∷ xs) = let b = exchanged_free xs in omega (arith, count_step)
+exchanged_free (Some e ∷ xs) = let b = exchanged_free xs in omega (arith, count_step)
 
 pub exchanged_length : (xs ys : List Slot) → ys ≡ map slot_exchanged xs → length xs ≡ 32 → length ys ≡ 32
 exchanged_length xs ys e w = ap length e ∙ length-map xs slot_exchanged ∙ w

@@ -15,7 +15,7 @@ use Rattle.cache.specs.Contents.{Blocks, no_blocks, one_if}
 use Rattle.cache.specs.Stripes.{is_number, in_stripe, HasStripe, looked_up, by_position, count_below, held_count, stripe_freed}
 use Rattle.cache.specs.Slots.{Slot, same, blocks, each_once, contents_of, slot_freed}
 use Rattle.cache.proofs.Once.{Once, once_from, once_back, count_step, same_contents}
-use Rattle.cache.proofs.Places.{number_from_place, place_from_number, some_injective}
+use Rattle.cache.proofs.Places.{cond_none, number_from_place, place_from_number, some_injective}
 
 -- one block more or less in a count of positions
 same_count : (w : ℕ) (p q : ℕ → Bool) → ((i : ℕ) → i < w → q i ≡ p i) → count_below w q ≡ count_below w p
@@ -57,10 +57,6 @@ module _ (t : ℕ → Bool) where
   freed_count (None ∷ es) = freed_count es
   freed_count (Some e ∷ es) = one_if (same e.cache Destaging && t e.block) + freed_count es
 
-  none_both : (q : Bool) → ◌≡◌ {A = Option (List ℕ)} None (cond q None None)
-  none_both true = refl
-  none_both false = refl
-
   -- the first slot, freed or not
   head_freed : (o : Cache) (w : Bool) (e : CachedBlock) (zs : List Slot) (k : ℕ) → blocks o (cond w None (Some e) ∷ zs) k ≡ cond w (blocks o zs k) (cond (same e.cache o && eqb e.block k) (Some e.bytes) (blocks o zs k))
   head_freed o true e zs k = refl
@@ -94,7 +90,7 @@ module _ (t : ℕ → Bool) where
     beside_at Destaging false z = refl
 
   freed_blocks : (k : ℕ) (xs : List Slot) → blocks Destaging (map (slot_freed t) xs) k ≡ cond (t k) None (blocks Destaging xs k)
-  freed_blocks k [] = none_both (t k)
+  freed_blocks k [] = sym (cond_none (t k))
   freed_blocks k (None ∷ xs) = freed_blocks k xs
   freed_blocks k (Some e ∷ xs) =
       head_freed Destaging (same e.cache Destaging && t e.block) e (map (slot_freed t) xs) k
@@ -112,7 +108,7 @@ module _ (t : ℕ → Bool) where
   freed_once : (xs : List Slot) → Once Destaging xs → Once Destaging (map (slot_freed t) xs)
   freed_once [] u = tt
   freed_once (None ∷ xs) u = freed_once xs u
-  freed_once (Some e ∷ xs) u = once_freed Destaging (same e.cache Destaging && t e.block) e (map (slot_freed t) xs) (λ s. freed_blocks e.block xs ∙ ap (λ z. cond (t e.block) None z) (u.0 s) ∙ sym (none_both (t e.block))) (freed_once xs u.1)
+  freed_once (Some e ∷ xs) u = once_freed Destaging (same e.cache Destaging && t e.block) e (map (slot_freed t) xs) (λ s. freed_blocks e.block xs ∙ ap (λ z. cond (t e.block) None z) (u.0 s) ∙ cond_none (t e.block)) (freed_once xs u.1)
 
   freed_once_beside : (xs : List Slot) → Once Buffering xs → Once Buffering (map (slot_freed t) xs)
   freed_once_beside [] u = tt
@@ -125,8 +121,8 @@ module _ (t : ℕ → Bool) where
 
   freed_free : (xs : List Slot) → count_by is_none (map (slot_freed t) xs) ≡ count_by is_none xs + freed_count xs
   freed_free [] = refl
-  freed_free (None ∷ xs) = let b = freed_free xs in let u = count_step None xs in let v = count_step None (map (slot_freed t) xs) in omega arith
-  freed_free (Some e ∷ xs) = let a = free_if (same e.cache Destaging && t e.block) e in let b = freed_free xs in let u = count_step (Some e) xs in let v = count_step (slot_freed t (Some e)) (map (slot_freed t) xs) in omega arith
+  freed_free (None ∷ xs) = let b = freed_free xs in omega (arith, count_step)
+  freed_free (Some e ∷ xs) = let a = free_if (same e.cache Destaging && t e.block) e in let b = freed_free xs in omega (arith, count_step)
 
 -- the slots that a stripe has are as many as its positions that are held
 module _ (m n : ℕ) (h : 3 ≤ m) (s : ℕ) where

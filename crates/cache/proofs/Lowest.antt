@@ -111,7 +111,7 @@ module _ {A : Type 0} (g : A → Option ℕ) where
   above_less n m (e ∷ es) h = let a = head_less n m (g e) h in let b = above_less n m es h in omega arith
 
   -- the slot of t counts no more from t + 1 on
-  pub above_falls : (n t : ℕ) (es : List A) → n ≤ t → Any es t → above (t + 1) es + 1 ≤ above n es
+  above_falls : (n t : ℕ) (es : List A) → n ≤ t → Any es t → above (t + 1) es + 1 ≤ above n es
   above_falls n t [] h c = elim c [ ]
   above_falls n t (x ∷ es) h (inl c) =
       let a : one_if (reaches n (g x)) ≡ 1 = ap (λ o. one_if (reaches n o)) c ∙ ap one_if (le-leb n t h) in
@@ -136,7 +136,7 @@ module _ (m n : ℕ) (o : Cache) where
       let z = has_from_any xs s h in
       (z.0, elim (same e.cache o && eqb e.block z.0) as (λ q. is_some (cond q (Some e.bytes) (blocks o xs z.0)) ≡ true) [ true ↦ refl | false ↦ z.1 ], z.2)
 
-  pub any_from_has : (xs : List Slot) (s : ℕ) → HasStripe m n (blocks o xs) s → Any (slot_stripe m n o) xs s
+  any_from_has : (xs : List Slot) (s : ℕ) → HasStripe m n (blocks o xs) s → Any (slot_stripe m n o) xs s
   any_from_has [] s h = absurd (false≢true h.1)
   any_from_has (None ∷ xs) s h = inr (any_from_has xs s h)
   any_from_has (Some e ∷ xs) s h =
@@ -151,6 +151,10 @@ module _ (m n : ℕ) (o : Cache) where
 
   pub lowest_stripe : (xs : List Slot) (f : ℕ) (r : Option ℕ) → r ≡ reduce min (numbers_from (slot_stripe m n o) f xs) → LowestFrom (HasStripe m n (blocks o xs)) f r
   lowest_stripe xs f r e = lowest_same xs f r (subst (LowestFrom (Any (slot_stripe m n o) xs) f) (sym e) (lowest_any (slot_stripe m n o) f xs))
+
+-- after its lowest stripe from a number on, fewer slots have one
+pub stripes_fall : (m n : ℕ) (o : Cache) (xs : List Slot) (from t : ℕ) → LowestFrom (HasStripe m n (blocks o xs)) from (Some t) → above (slot_stripe m n o) (t + 1) xs + 1 ≤ above (slot_stripe m n o) from xs
+stripes_fall m n o xs from t h = above_falls (slot_stripe m n o) from t xs h.0 (any_from_has m n o xs t h.1)
 
 -- no stripe of the cache lies outside the array
 pub stripe_small : (m n : ℕ) → 3 ≤ m → (f : Blocks) (s : ℕ) → HasStripe m n f s → s < n

@@ -25,11 +25,7 @@ number_eq s (Some t) = refl
 
 -- a slot freed exactly where its block is of the stripe
 pub freed_if : (m n s : ℕ) (x : Slot) → slot_freed (in_stripe m n s) x ≡ cond (is_number s (slot_stripe m n Destaging x)) None x
-freed_if m n s None = go (is_number s None)
-  where
-    go : (q : Bool) → ◌≡◌ {A = Slot} None (cond q None None)
-    go true = refl
-    go false = refl
+freed_if m n s None = refl
 freed_if m n s (Some e) = go (same e.cache Destaging)
   where
     go : (q : Bool) → ◌≡◌ {A = Slot} (cond (q && in_stripe m n s e.block) None (Some e)) (cond (is_number s (cond q (stripe_of_block m n e.block) None)) None (Some e))

@@ -1,5 +1,5 @@
 -- Each block once, as a fact on each slot; equal contents. Assumes nothing.
-use Rattle.std.proofs.Common.{◌≡◌, ℕ, ◌+◌, Bool, true, false, cond, not, ◌&&◌, List, [], ◌∷◌, is_some, Some, None, Option, refl, arith}
+use Rattle.std.proofs.Common.{◌≡◌, ℕ, ◌+◌, Bool, true, false, cond, not, ◌&&◌, List, [], ◌∷◌, is_some, Some, None, Option, refl}
 use Rattle.std.specs.List.{count_by}
 use Rattle.std.specs.Option.{is_none}
 use Rattle.std.proofs.lemmas.Bool.{false≢true, and_parts, and_from}
@@ -7,9 +7,6 @@ use Rattle.std.proofs.lemmas.List.Sums.{sum_by-cons}
 use Rattle.cache.specs.declared.slot.Cache.{Cache}
 use Rattle.cache.specs.Contents.{Blocks, Contents}
 use Rattle.cache.specs.Slots.{Slot, same, blocks, each_once}
-
-pub some≢none : {x : List ℕ} → Some x ≡ None → ⊥
-some≢none p = let z : ◌≡◌ {A = ℕ} 0 1 = cc in omega arith
 
 abbrev pub Once : Cache → List Slot → Type 0
 Once o [] = Unit {0}
@@ -27,7 +24,7 @@ none_from false l h e = absurd (false≢true e)
 
 none_back : (q : Bool) (l : Option (List ℕ)) → (q ≡ true → l ≡ None) → not (q && is_some l) ≡ true
 none_back true None h = refl
-none_back true (Some x) h = absurd (some≢none (h refl))
+none_back true (Some x) h = let e = h refl in cc
 none_back false l h = refl
 
 pub once_from : (o : Cache) (es : List Slot) → each_once o es ≡ true → Once o es

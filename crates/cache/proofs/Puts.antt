@@ -10,7 +10,7 @@ use Rattle.cache.specs.declared.slot.Cache.TheVariants.{Buffering, Destaging}
 use Rattle.cache.specs.Contents.{put_into, no_slot_for, one_if}
 use Rattle.cache.specs.Slots.{Slot, same, holds, blocks, each_once, contents_of}
 use Rattle.cache.proofs.Lookups.{held, blocks_step, nowhere, found, none_passes}
-use Rattle.cache.proofs.Once.{some≢none, Once, once_rest, once_from, once_back, count_step, same_contents}
+use Rattle.cache.proofs.Once.{Once, once_rest, once_from, once_back, count_step, same_contents}
 use Rattle.cache.proofs.Places.{none≢some}
 
 buffering_alone : (o : Cache) → same o Buffering ≡ true → same o Destaging ≡ false
@@ -64,7 +64,7 @@ module _ (b : ℕ) (x : List ℕ) where
 
   head_none : (y : Slot) (ys : List Slot) → blocks Buffering (y ∷ ys) b ≡ None → (holds Buffering b y ≡ false) × (blocks Buffering ys b ≡ None)
   head_none None ys n = (refl, n)
-  head_none (Some e) ys m = elim (holds Buffering b (Some e)) as (λ q. cond q (Some e.bytes) (blocks Buffering ys b) ≡ None → (q ≡ false) × (blocks Buffering ys b ≡ None)) [ true ↦ λ n. absurd (some≢none n) | false ↦ λ n. (refl, n) ] m
+  head_none (Some e) ys m = elim (holds Buffering b (Some e)) as (λ q. cond q (Some e.bytes) (blocks Buffering ys b) ≡ None → (q ≡ false) × (blocks Buffering ys b ≡ None)) [ true ↦ λ n. cc | false ↦ λ n. (refl, n) ] m
 
   put_blocks : (xs : List Slot) (i : ℕ) (d : Slot) (k : ℕ) → i < length xs → blocks Buffering (take i xs) b ≡ None → Takes (get_or xs i d) → blocks Buffering (set xs i filled) k ≡ cond (eqb k b) (Some x) (blocks Buffering xs k)
   put_blocks [] i d k l n t = absurd (omega arith)
@@ -82,13 +82,13 @@ module _ (b : ℕ) (x : List ℕ) where
   -- the free slots
   put_free : (xs : List Slot) (i : ℕ) (d : Slot) → i < length xs → is_none (get_or xs i d) ≡ true → count_by is_none (set xs i filled) + 1 ≡ count_by is_none xs
   put_free [] i d l h = absurd (omega arith)
-  put_free (y ∷ ys) zero d l h = let e = one_free y h in let u = count_step y ys in let v = count_step filled ys in omega arith
-  put_free (y ∷ ys) (suc i) d l h = let ih = put_free ys i d (omega arith) h in let u = count_step y ys in let v = count_step y (set ys i filled) in omega arith
+  put_free (y ∷ ys) zero d l h = let e = one_free y h in omega (arith, count_step)
+  put_free (y ∷ ys) (suc i) d l h = let ih = put_free ys i d (omega arith) h in omega (arith, count_step)
 
   put_over : (xs : List Slot) (i : ℕ) (d : Slot) → holds Buffering b (get_or xs i d) ≡ true → count_by is_none (set xs i filled) ≡ count_by is_none xs
   put_over [] i d h = refl
-  put_over (y ∷ ys) zero d h = let e = none_taken y (taken Buffering b y h) in let u = count_step y ys in let v = count_step filled ys in omega arith
-  put_over (y ∷ ys) (suc i) d h = let ih = put_over ys i d h in let u = count_step y ys in let v = count_step y (set ys i filled) in omega arith
+  put_over (y ∷ ys) zero d h = let e = none_taken y (taken Buffering b y h) in omega (arith, count_step)
+  put_over (y ∷ ys) (suc i) d h = let ih = put_over ys i d h in omega (arith, count_step)
 
   -- each block once: block b stands neither before the slot nor after it
   not_b : (c : Cache) (j : ℕ) → same c Buffering ≡ true → (same c Buffering && eqb j b) ≡ false → eqb j b ≡ false
@@ -130,7 +130,7 @@ module _ (b : ℕ) (x : List ℕ) where
 
 none_free : (xs : List Slot) → ((i : ℕ) (d : Slot) → i < length xs → is_none (get_or xs i d) ≡ false) → count_by is_none xs ≡ 0
 none_free [] h = refl
-none_free (y ∷ ys) h = let a = none_taken y (h 0 None (omega arith)) in let b = none_free ys (λ i d l. h (suc i) d (omega arith)) in let u = count_step y ys in omega arith
+none_free (y ∷ ys) h = let a = none_taken y (h 0 None (omega arith)) in let b = none_free ys (λ i d l. h (suc i) d (omega arith)) in omega (arith, count_step)
 
 -- what a put leaves
 pub record Left (xs : List Slot) (b : ℕ) (x : List ℕ) (ys : List Slot) : Type 0 where

@@ -13,3 +13,14 @@ pub struct StripeList {
     ghost few: { count ≤ 32 },
     ghost rising: { (i j : ℕ) → i < j → j < count → slice_index numbers i < slice_index numbers j },
 }
+
+impl StripeList {
+    ghost use Rattle.cache.specs.Meaning.{listed};
+
+    /// The stripes.
+    pub fn as_slice(&self) -> &[u32]
+        ensures { result.now ≡ listed self.now }
+    {
+        &self.numbers[..self.count]
+    }
+}

@@ -27,14 +27,14 @@ fn holds(slot: &Slot, cache: Cache, block: usize) -> bool
 
 impl Caches {
     // The first slot of a block in a cache.
-    pub(super) fn slot_of(&self, cache: Cache, block: usize) -> Option<usize>
+    fn slot_of(&self, cache: Cache, block: usize) -> Option<usize>
         ensures { result ≡ position (holds_block cache block) self.now.slots }
     {
         self.slots.iter().position(|slot| holds(slot, cache, block))
     }
 
     // The first free slot.
-    pub(super) fn free_slot(&self) -> Option<usize>
+    fn free_slot(&self) -> Option<usize>
         ensures { result ≡ position is_none self.now.slots }
     {
         self.slots.iter().position(|slot| slot.is_none())

@@ -1,4 +1,5 @@
 // A cache slot: free, or with a block of one of the caches.
+use geometry::shape::MOST_MEMBERS;
 
 /// How many slots the two caches share.
 pub const SLOTS: usize = 32;
@@ -8,10 +9,10 @@ pub const SLOTS: usize = 32;
 pub const BLOCK_BYTES: usize = 512;
 
 /// The most data blocks of a stripe: one less than the most members of an array.
-pub const MOST_POSITIONS: usize = 7;
+pub const MOST_POSITIONS: usize = MOST_MEMBERS - 1;
 
 /// One of the two caches.
-#[derive(Clone, Copy, PartialEq, Eq)]
+#[derive(Clone, Copy, PartialEq, Eq, Debug)]
 pub enum Cache {
     Buffering,
     Destaging,

@@ -1,4 +1,5 @@
 // The stripes of a cache.
+// Kept: clauses give both counts of a shape, since the definitions also serve models that have no Shape.
 ghost use Rattle.std.specs.Prelude.{◌≡◌, ◌<◌};
 ghost use Rattle.geometry.specs.Counts.{members_of, blocks_of};
 ghost use Rattle.cache.specs.Stripes.{HasStripe, Listed};
@@ -10,15 +11,6 @@ use crate::caches::Caches;
 use crate::list::StripeList;
 use crate::slot::{Cache, SLOTS, Slot};
 use geometry::shape::Shape;
-
-impl StripeList {
-    /// The stripes.
-    pub fn as_slice(&self) -> &[u32]
-        ensures { result.now ≡ listed self.now }
-    {
-        &self.numbers[..self.count]
-    }
-}
 
 // The stripe of a slot's block, if that belongs to this cache and the array has it.
 pub(super) fn slot_stripe(slot: &Slot, cache: Cache, shape: Shape) -> Option<usize>
@@ -47,6 +39,7 @@ impl Caches {
     pub(super) fn all_stripes(&self, cache: Cache, shape: Shape) -> StripeList
         ensures { Listed (members_of shape) (blocks_of shape) (blocks cache self.now.slots) (listed result) }
     {
+        // Kept: the list fills its array from the front, as a push would; the loop goes over stripes and no indices.
         let mut numbers = [0; SLOTS];
         let mut count = 0;
         let mut from = 0;

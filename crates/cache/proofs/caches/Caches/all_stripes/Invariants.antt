@@ -7,10 +7,11 @@ use Rattle.cache.proofs.Lowest.{above, Listing}
 use Rattle.cache.proofs.caches.Caches.all_stripes.Given as goal
 
 abbrev pub invariant-loop-stripe : goal.invariant-loop-stripe
-invariant-loop-stripe l =
-    (length l.numbers ≡ 32)
-    × (l.count + above (slot_stripe (members_of l.shape) (blocks_of l.shape) l.cache) l.from l.self.slots ≤ 32)
-    × Listing (HasStripe (members_of l.shape) (blocks_of l.shape) (blocks l.cache l.self.slots)) l.from l.count l.numbers
+invariant-loop-stripe l = record {
+  long : length l.numbers ≡ 32;
+  room : l.count + above (slot_stripe (members_of l.shape) (blocks_of l.shape) l.cache) l.from l.self.slots ≤ 32;
+  listing : Listing (HasStripe (members_of l.shape) (blocks_of l.shape) (blocks l.cache l.self.slots)) l.from l.count l.numbers;
+}
 
 abbrev pub decreases-loop-stripe : goal.decreases-loop-stripe
 decreases-loop-stripe l = above (slot_stripe (members_of l.shape) (blocks_of l.shape) l.cache) l.from l.self.slots

@@ -14,6 +14,6 @@ returns c =
     let o = c.args.cache in
     lowest_stripe m n o c.args.self.now.slots c.args.from c.min.result
     (sym (option_map_id c.min.result) ∙ min_from_yields_List c.filter.result c.min.result c.min.ensures.ran
-      (YieldsList-from_filter _ (λ (s : ℕ). leb c.args.from s)
-        (YieldsList-at c.filter.ensures.source (YieldsList-from_filter_map _ (slot_stripe m n o) (YieldsList-at c.filter_map.ensures.source (YieldsList-from_slice c.args.self.now.slots cc)) c.filter_map.ensures.closure (λ x r q k. search (rules, tests))))
-        c.filter.ensures.closure (λ x b q k. search (rules, tests))))
+    (YieldsList-from_filter _ (λ (s : ℕ). leb c.args.from s)
+    (YieldsList-at c.filter.ensures.source (YieldsList-from_filter_map _ (slot_stripe m n o) (YieldsList-at c.filter_map.ensures.source (YieldsList-from_slice c.args.self.now.slots cc)) c.filter_map.ensures.closure (λ x r q k. search (rules, tests))))
+    c.filter.ensures.closure (λ x b q k. search (rules, tests))))
