@@ -25,12 +25,13 @@ use stripe_work::reconstruct::reconstruct_block;
 // Kept: the bound of a block's number and the length of a buffer stand in four contracts; the array's checks show both just
 // before, and types for them would be made there only to be taken apart here.
 
-// Where a block of the array lies.
-fn block_address<L: Layout>(geometry: &Geometry<L>, block: usize) -> Address
+/// Where a block of the array lies.
+pub fn address_of_block<L: Layout>(geometry: &Geometry<L>, block: usize) -> Address
     requires { block < data_blocks (members_of geometry.now.shape) (blocks_of geometry.now.shape) }
     ensures member { result.member ≡ holder (sized L.Layout.arrangement geometry.now.shape) block }
     ensures block { result.block ≡ (stripe_of (sized L.Layout.arrangement geometry.now.shape) (home (sized L.Layout.arrangement geometry.now.shape) block)).block }
     ensures there { address_check (members_of geometry.now.shape) (blocks_of geometry.now.shape) result ≡ NoneOf }
+    ensures small { result.block < 16777216 }
 {
     geometry.data_address(block).unwrap()
 }
@@ -45,7 +46,7 @@ fn read_held<S: MemberStore, L: Layout>(
     requires { (block < data_blocks (members_of geometry.now.shape) (blocks_of geometry.now.shape)) × (length into.old ≡ 512) }
     ensures { Fetched (read_calls (sized L.Layout.arrangement geometry.now.shape) block) (held (sized L.Layout.arrangement geometry.now.shape) (S.MemberStore.meaning store.old) block) into.old into.new (S.MemberStore.meaning store.old) result (S.MemberStore.meaning store.new) }
 {
-    let at = block_address(geometry, block);
+    let at = address_of_block(geometry, block);
     store.read(at, into)?;
     Ok(())
 }
@@ -96,7 +97,7 @@ pub fn read_without<S: MemberStore, L: Layout>(
     requires { (block < data_blocks (members_of geometry.now.shape) (blocks_of geometry.now.shape)) × (length into.old ≡ 512) }
     ensures { (q : State) (c : Contents) (l : LogMeaning) → ReadsWithout (sized L.Layout.arrangement geometry.now.shape) absent block into.old into.new (array_of q c (S.MemberStore.meaning store.old) l) result (array_of (state_after q result) c (S.MemberStore.meaning store.new) l) }
 {
-    let at = block_address(geometry, block);
+    let at = address_of_block(geometry, block);
     if at.member == absent {
         return read_missing(store, geometry, at, into);
     }
