@@ -10,6 +10,7 @@ ghost use Rattle.array.specs.Blocks.{absent_check, ShortChecked};
 
 use crate::array::Array;
 use crate::block::check_block;
+use crate::outcome::or_fall;
 use crate::tokens::ShortPermit;
 use array_model::refusal::ArrayRefusal;
 use array_model::state::State;
@@ -35,18 +36,10 @@ fn check_absent<G: IntentLog>(log: &G, absent: usize, at: Address) -> Result<(),
     requires { at.block < 16777216 }
     ensures { LogOn (G.IntentLog.sound log.now) (G.IntentLog.meaning log.now) → result ≡ verdict (absent_check at.member at.block absent (G.IntentLog.meaning log.now)) }
 {
-    if at.member != absent {
-        return Ok(());
+    if at.member == absent && log.is_named(at.block as u32)? {
+        return Err(ArrayRefusal::StripeNamed(at.block));
     }
-    match log.is_named(at.block as u32) {
-        Ok(named) => {
-            if named {
-                return Err(ArrayRefusal::StripeNamed(at.block));
-            }
-            Ok(())
-        }
-        Err(e) => Err(ArrayRefusal::Log(e)),
-    }
+    Ok(())
 }
 
 // The checks of a read without one member, after that of the state.
@@ -60,13 +53,9 @@ fn check_short<S: MemberStore, G: IntentLog, L: Layout>(
 ) -> Result<Shape, ArrayRefusal>
     ensures { ShortChecked L.Layout.arrangement (S.MemberStore.meaning store.now) (G.IntentLog.meaning log.now) (LogOn (G.IntentLog.sound log.now) (G.IntentLog.meaning log.now)) absent block length result }
 {
-    match check_block(store, block, length) {
-        Ok(shape) => match check_absent(log, absent, place_of(layout, shape, block)) {
-            Ok(()) => Ok(shape),
-            Err(named) => Err(named),
-        },
-        Err(refusal) => Err(refusal),
-    }
+    let shape = check_block(store, block, length)?;
+    check_absent(log, absent, place_of(layout, shape, block))?;
+    Ok(shape)
 }
 
 impl<S: MemberStore, G: IntentLog, L: Layout> Array<S, G, L> {
@@ -83,30 +72,25 @@ impl<S: MemberStore, G: IntentLog, L: Layout> Array<S, G, L> {
         ensures kept { OnErr result (into.new ≡ into.old) }
     {
         match self.state {
-            State::Short(absent) => match check_short(
-                &self.store,
-                &self.log,
-                &self.layout,
-                absent,
-                block,
-                into.len(),
-            ) {
-                Ok(shape) => match read_without(
+            State::Short(absent) => {
+                let shape = check_short(
+                    &self.store,
+                    &self.log,
+                    &self.layout,
+                    absent,
+                    block,
+                    into.len(),
+                )?;
+                let outcome = read_without(
                     &mut self.store,
                     &self.layout,
                     shape,
                     absent,
                     block,
                     into,
-                ) {
-                    Ok(()) => Ok(()),
-                    Err(cut) => {
-                        self.state = State::Fallen;
-                        Err(cut)
-                    }
-                },
-                Err(refusal) => Err(refusal),
-            },
+                );
+                or_fall(&mut self.state, outcome)
+            }
             State::Fallen | State::Down | State::Resync(_) | State::Ready => Err(
                 ArrayRefusal::WrongState(self.state),
             ),

@@ -16,8 +16,7 @@ pub mod tokens;
 
 /// Proved: whatever call is made, an array that is down, resynchronizing or short has empty caches, so that nothing stale
 /// appears after an opening.
-pub fn caches_stay_empty() -> u8
+pub fn caches_stay_empty()
     ensures { CachesStayEmpty }
 {
-    0
 }

@@ -40,10 +40,7 @@ pub(super) fn read<S: MemberStore, G: IntentLog, L: Layout>(
     ensures sound { Sound S.MemberStore.meaning G.IntentLog.meaning G.IntentLog.sound array.old → Sound S.MemberStore.meaning G.IntentLog.meaning G.IntentLog.sound array.new }
     ensures made { Sound S.MemberStore.meaning G.IntentLog.meaning G.IntentLog.sound array.old → Tries L.Layout.arrangement (call.Read block length) (counts_of tokens.now) (means S.MemberStore.meaning G.IntentLog.meaning array.old) result (counts_of tokens.now) (means S.MemberStore.meaning G.IntentLog.meaning array.new) }
 {
-    let mut buffer = match zero_buffer(heap, length) {
-        Ok(buffer) => buffer,
-        Err(e) => return Err(e),
-    };
+    let mut buffer = zero_buffer(heap, length)?;
     match tokens.permits.last() {
         Some(permit) => match array.read(permit, block, buffer.as_mut_slice()) {
             Ok(()) => Ok(Answer::Read(Ok(buffer))),
@@ -90,13 +87,11 @@ pub(super) fn close<S: MemberStore, G: IntentLog, L: Layout>(
     match tokens.permits.pop() {
         Some(permit) => match array.close(permit) {
             Ok(()) => Answer::Plain(Ok(())),
-            Err(refused) => match refused {
-                CloseRefusal::Returned(state, permit) => {
-                    tokens.permits.push_reserved(permit);
-                    Answer::Plain(Err(ArrayRefusal::WrongState(state)))
-                }
-                CloseRefusal::Taken(e) => Answer::Plain(Err(e)),
-            },
+            Err(CloseRefusal::Returned(state, permit)) => {
+                tokens.permits.push_reserved(permit);
+                Answer::Plain(Err(ArrayRefusal::WrongState(state)))
+            }
+            Err(CloseRefusal::Taken(e)) => Answer::Plain(Err(e)),
         },
         None => Answer::NoToken,
     }

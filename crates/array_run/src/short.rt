@@ -23,10 +23,7 @@ pub(super) fn read_short<S: MemberStore, G: IntentLog, L: Layout>(
     ensures sound { Sound S.MemberStore.meaning G.IntentLog.meaning G.IntentLog.sound array.old → Sound S.MemberStore.meaning G.IntentLog.meaning G.IntentLog.sound array.new }
     ensures made { Sound S.MemberStore.meaning G.IntentLog.meaning G.IntentLog.sound array.old → Tries L.Layout.arrangement (call.ReadShort block length) (counts_of tokens.now) (means S.MemberStore.meaning G.IntentLog.meaning array.old) result (counts_of tokens.now) (means S.MemberStore.meaning G.IntentLog.meaning array.new) }
 {
-    let mut buffer = match zero_buffer(heap, length) {
-        Ok(buffer) => buffer,
-        Err(e) => return Err(e),
-    };
+    let mut buffer = zero_buffer(heap, length)?;
     match tokens.shorts.last() {
         Some(permit) => match array.read_short(permit, block, buffer.as_mut_slice()) {
             Ok(()) => Ok(Answer::Read(Ok(buffer))),
