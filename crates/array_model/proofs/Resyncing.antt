@@ -22,7 +22,6 @@ use Rattle.array_model.specs.Book.{Book, InBook, holding, Since, told}
 use Rattle.array_model.specs.Promise.{Consistent, HeldByBook}
 use Rattle.array_model.specs.declared.state.Progress.{Progress}
 use Rattle.array_model.specs.declared.state.State.TheVariants.{Resync, Ready}
-use Rattle.array_model.specs.declared.answer.Step.TheVariants.{Taken}
 use Rattle.array_model.proofs.Places.{Facts, width, number, num_home, num_position, num_back, home_below, position_below'}
 use Rattle.array_model.proofs.Inv.{On, has, Grows, Sized, stands, member_below, Known, BookSized, Crash, Sure, Calm, InResyncing, InReadiness, clean_right, crash_grows, clean_crash}
 use Rattle.array_model.proofs.Effects.{Mends, resync_stores, completed_grows, stopped_grows, stopped_on, completed_has, parity_sized, barrier_current, barrier_only, barrier_sized}
@@ -207,7 +206,7 @@ module _ (g : Geometry) (f : Facts g) (b : Book) (z : Since) (p : Progress) (s :
       next_below : t + 1 ≤ stripe_count g
       next_below = let l : t < stripe_count g = inside in omega arith
 
-      pub step_taken : (r : Bool) → InResyncing g b (told (Ok (Taken t (not r))) z) (taken p t r) (array (Resync (taken p t r)) s.caches n s.log)
+      pub step_taken : (r : Bool) → InResyncing g b (told (Ok (Some (record { stripe = t; mended = not r }))) z) (taken p t r) (array (Resync (taken p t r)) s.caches n s.log)
       step_taken true = record {
         calm = calm (taken p t true);
         record_stands = i.record_stands;
