@@ -5,25 +5,19 @@ use Rattle.geometry.specs.declared.shape.Shape.{Shape}
 use Rattle.member_store.specs.Meaning as store
 use Rattle.intent_log.specs.Meaning as intent
 use Rattle.cache.specs.Contents.{Contents}
-use Rattle.array_model.specs.Meaning.{Arrange, geometry_on, array}
-use Rattle.array_model.specs.Calls.{FlushesReady, Flushes}
+use Rattle.array_model.specs.Meaning.{Arrange, array}
+use Rattle.array_model.specs.Calls.{FlushesReady}
 use Rattle.array_model.specs.declared.answer.FlushCounts.{FlushCounts}
 use Rattle.array_model.specs.declared.state.State.{State}
 use Rattle.array_model.specs.declared.state.State.TheVariants.{Ready}
 use Rattle.array_model.specs.declared.refusal.ArrayRefusal.{ArrayRefusal}
 use Rattle.array_work.specs.Outcomes.{sized, state_after}
 use Rattle.array.specs.Sound.{LogOn, Sized, SoundIn}
-use Rattle.array.proofs.Kept.{shape_geometry}
 use Rattle.array.proofs.Safety.{flush_safe}
 
 module _ (arrange : Arrange) (a : Shape) (q : State) (c : Contents) (m : store.Meaning) (l : intent.Meaning) (ready : q ≡ Ready) (p : members_of a ≡ m.members) (n : blocks_of a ≡ m.blocks) (c' : Contents) (m' : store.Meaning) (l' : intent.Meaning) (r : Result FlushCounts ArrayRefusal) where
   abbrev Ended : Type 0
   Ended = FlushesReady (sized arrange a) (array Ready c m l) r (array (state_after Ready r) c' m' l')
-
-  pub flushes : Ended → Flushes (geometry_on arrange m) (array q c m l) r (array (state_after q r) c' m' l')
-  flushes d =
-      subst (λ g. Flushes g (array q c m l) r (array (state_after q r) c' m' l')) (shape_geometry arrange a m p n)
-      (subst (λ z. Flushes (sized arrange a) (array z c m l) r (array (state_after z r) c' m' l')) (sym ready) d)
 
   pub flushed_sound : (S S' : Type 0) → S' → LogOn S l × Sized m → Ended → SoundIn (state_after q r) S' m' l'
   flushed_sound S S' s h d =

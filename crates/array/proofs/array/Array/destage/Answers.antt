@@ -1,5 +1,6 @@
 use Rattle.cache.specs.Meaning.{contents}
-use Rattle.array.proofs.Blocks.{ready_sound}
+use Rattle.array_model.specs.declared.state.State.TheVariants.{Ready}
+use Rattle.array.proofs.Kept.{sound_as}
 use Rattle.array.proofs.Destaging.{destages, destaged_sound}
 use Rattle.array.proofs.array.Array.destage.Goals as goal
 
@@ -20,10 +21,10 @@ returns-in_ok-shape-in-Ready g c =
     let f = c.in_ok-shape-in-Ready.ensures in
     let e = c.in-Ready.is in
     record {
-      sound = λ h. let o = ready_sound q z m l e h in
+      sound = λ h. let o = sound_as q Ready z m l e h in
           rw (c.or_fall.ensures.leaves, c.or_fall.ensures.same)
           (destaged_sound a shape q d m l e f.1 f.2 d' m' l' w.result z z' (w.ensures.sound o.0.0) o (w.ensures.does o.0.0 o.0.1));
-      does = λ h. let o = ready_sound q z m l e h in
+      does = λ h. let o = sound_as q Ready z m l e h in
           rw (c.or_fall.ensures.leaves, c.or_fall.ensures.same)
           (destages a shape q d m l e f.1 f.2 d' m' l' w.result (w.ensures.does o.0.0 o.0.1));
     }

@@ -1,10 +1,11 @@
 use Rattle.cache.specs.Meaning.{contents}
-use Rattle.array.proofs.Blocks.{ready_sound}
-use Rattle.array.proofs.Flushing.{flushes, flushed_sound}
+use Rattle.array_model.specs.declared.state.State.TheVariants.{Ready}
+use Rattle.array.proofs.Kept.{sound_as}
+use Rattle.array.proofs.Flushing.{flushed_sound}
 use Rattle.array.proofs.array.Array.flush.Goals as goal
 
-pub returns-in_ok-shape-in-Ready : goal.returns-in_ok-shape-in-Ready
-returns-in_ok-shape-in-Ready g c =
+pub returns-in_ok-shape-in-Ready-clause-sound : goal.returns-in_ok-shape-in-Ready-clause-sound
+returns-in_ok-shape-in-Ready-clause-sound g c =
     let q = c.args.self.now.state in
     let d = contents c.args.self.now.caches in
     let m = g.S.MemberStore.meaning c.args.self.now.store in
@@ -19,11 +20,6 @@ returns-in_ok-shape-in-Ready g c =
     let shape = c.in_ok-shape-in-Ready.shape in
     let f = c.in_ok-shape-in-Ready.ensures in
     let e = c.in-Ready.is in
-    record {
-      sound = λ h. let o = ready_sound q z m l e h in
-          rw (c.or_fall.ensures.leaves, c.or_fall.ensures.same)
-          (flushed_sound a shape q d m l e f.1 f.2 d' m' l' w.result z z' (w.ensures.sound o.0.0) o (w.ensures.does o.0.0 o.0.1));
-      does = λ h. let o = ready_sound q z m l e h in
-          rw (c.or_fall.ensures.leaves, c.or_fall.ensures.same)
-          (flushes a shape q d m l e f.1 f.2 d' m' l' w.result (w.ensures.does o.0.0 o.0.1));
-    }
+    λ h. let o = sound_as q Ready z m l e h in
+    rw (c.or_fall.ensures.leaves, c.or_fall.ensures.same)
+    (flushed_sound a shape q d m l e f.1 f.2 d' m' l' w.result z z' (w.ensures.sound o.0.0) o (w.ensures.does o.0.0 o.0.1))

@@ -1,5 +1,6 @@
 use Rattle.cache.specs.Meaning.{contents}
-use Rattle.array.proofs.Opening.{down_log}
+use Rattle.array_model.specs.declared.state.State.TheVariants.{Down}
+use Rattle.array.proofs.Kept.{sound_as}
 use Rattle.array.proofs.Formatting.{formats, formatted_sound}
 use Rattle.array.proofs.array.Array.format.Goals as goal
 
@@ -18,8 +19,8 @@ returns-in_ok-shape-in-Down g c =
     let e = c.in_ok-shape-in-Down.ensures in
     let f = c.or_fall.ensures in
     record {
-      sound = λ h. let s = (down_log q z m l c.in-Down.is h).0 in
+      sound = λ h. let s = (sound_as q Down z m l c.in-Down.is h).0 in
           rw (f.leaves, f.same) (formatted_sound a q d m l c.in-Down.is shape e.0 e.1 e.2 n k (g.G.IntentLog.sound w.new.log) (w.ensures.sound s) w.result (w.ensures.does a s));
-      does = λ h. let s = (down_log q z m l c.in-Down.is h).0 in
+      does = λ h. let s = (sound_as q Down z m l c.in-Down.is h).0 in
           rw (f.leaves, f.same) (formats a q d m l c.in-Down.is shape e.0 e.1 e.2 n k w.result (w.ensures.does a s));
     }

@@ -1,5 +1,11 @@
-use Rattle.std.proofs.Common.{◌<◌, ◌≤◌, not, arith}
+use Rattle.std.proofs.Common.{◌≡◌, ◌<◌, ◌≤◌, not, [], ◌∷◌, Err, arith, rules}
 use Rattle.geometry.specs.Counts.{members_of, blocks_of}
+use Rattle.stripe_work.specs.Stripe.{stripe_at}
+use Rattle.stripe_work.specs.Work.{resync_calls}
+use Rattle.array_model.specs.Work.{devices}
+use Rattle.array_model.specs.declared.state.State.TheVariants.{Fallen}
+use Rattle.array_work.specs.Outcomes.{state_told}
+use Rattle.array_work.proofs.Fetching.{fell}
 use Rattle.cache.specs.Meaning.{contents}
 use Rattle.array.proofs.Resyncing.{takes, takes_cut, taken_sound}
 use Rattle.array.proofs.array.Array.take.Goals as goal
@@ -32,5 +38,13 @@ returns-in_err-mended g c =
     let l = g.G.IntentLog.meaning c.args.self.now.log in
     let n = g.S.MemberStore.meaning c.take_stripe-outcome.new.store in
     let a = g.L.Layout.arrangement in
-    let e = c.in_err-mended.e in
-    ?
+    let k = c.args.stripe in
+    let w = members_of c.args.shape in
+    let no = c.in_err-mended in
+    let works = rw (← no.ensures.same) at (c.take_stripe-outcome.ensures l) in
+    let fallen : state_told q no.field-0.0 ≡ Fallen = fell q (devices (resync_calls (stripe_at a w k) m) ∷ []) m l no.field-0.0 n l works in
+    let result : c.from_residual.result ≡ Err no.field-0.0 = search rules in
+    record {
+      sound = λ on z bound above. rw (no.ensures.leaves, fallen) tt;
+      does = λ e f bound. rw (no.ensures.leaves, fallen, result) (takes_cut a q d m l c.args.progress k w n no.field-0.0 e works);
+    }
