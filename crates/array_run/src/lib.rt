@@ -18,5 +18,4 @@ pub mod tokens;
 /// appears after an opening.
 pub fn caches_stay_empty()
     ensures { CachesStayEmpty }
-{
-}
+{}

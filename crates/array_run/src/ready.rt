@@ -5,7 +5,7 @@ ghost use Rattle.array.specs.Sound.{means, Sound};
 ghost use Rattle.array_run.specs.TokenCounts.{Grown, counts_of};
 
 use crate::answer::Answer;
-use crate::buffer::zero_buffer;
+use crate::buffer::{read_told, zero_buffer};
 use crate::tokens::Tokens;
 use array::array::Array;
 use array::refusal::CloseRefusal;
@@ -42,10 +42,10 @@ pub(super) fn read<S: MemberStore, G: IntentLog, L: Layout>(
 {
     let mut buffer = zero_buffer(heap, length)?;
     match tokens.permits.last() {
-        Some(permit) => match array.read(permit, block, buffer.as_mut_slice()) {
-            Ok(()) => Ok(Answer::Read(Ok(buffer))),
-            Err(e) => Ok(Answer::Read(Err(e))),
-        },
+        Some(permit) => {
+            let outcome = array.read(permit, block, buffer.as_mut_slice());
+            Ok(read_told(outcome, buffer))
+        }
         None => Ok(Answer::NoToken),
     }
 }
