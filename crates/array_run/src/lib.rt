@@ -7,6 +7,7 @@ pub mod answer;
 mod buffer;
 pub mod call;
 pub mod give_up;
+mod last;
 mod open;
 mod ready;
 mod resync;

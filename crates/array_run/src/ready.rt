@@ -6,6 +6,7 @@ ghost use Rattle.array_run.specs.TokenCounts.{Grown, counts_of};
 
 use crate::answer::Answer;
 use crate::buffer::{read_told, zero_buffer};
+use crate::last::on_last;
 use crate::tokens::Tokens;
 use array::array::Array;
 use array::refusal::CloseRefusal;
@@ -24,10 +25,9 @@ pub(super) fn write<S: MemberStore, G: IntentLog, L: Layout>(
     ensures sound { Sound S.MemberStore.meaning G.IntentLog.meaning G.IntentLog.sound array.old → Sound S.MemberStore.meaning G.IntentLog.meaning G.IntentLog.sound array.new }
     ensures made { Sound S.MemberStore.meaning G.IntentLog.meaning G.IntentLog.sound array.old → Made L.Layout.arrangement (call.Write block bytes.entry) (counts_of tokens.now) (means S.MemberStore.meaning G.IntentLog.meaning array.old) result (counts_of tokens.now) (means S.MemberStore.meaning G.IntentLog.meaning array.new) }
 {
-    match tokens.permits.last() {
-        Some(permit) => Answer::Plain(array.write(permit, block, bytes)),
-        None => Answer::NoToken,
-    }
+    on_last(array, &tokens.permits, |array, permit| {
+        Answer::Plain(array.write(permit, block, bytes))
+    })
 }
 
 pub(super) fn read<S: MemberStore, G: IntentLog, L: Layout>(
@@ -57,10 +57,9 @@ pub(super) fn destage<S: MemberStore, G: IntentLog, L: Layout>(
     ensures sound { Sound S.MemberStore.meaning G.IntentLog.meaning G.IntentLog.sound array.old → Sound S.MemberStore.meaning G.IntentLog.meaning G.IntentLog.sound array.new }
     ensures made { Sound S.MemberStore.meaning G.IntentLog.meaning G.IntentLog.sound array.old → Made L.Layout.arrangement call.Destage (counts_of tokens.now) (means S.MemberStore.meaning G.IntentLog.meaning array.old) result (counts_of tokens.now) (means S.MemberStore.meaning G.IntentLog.meaning array.new) }
 {
-    match tokens.permits.last() {
-        Some(permit) => Answer::Destage(array.destage(permit)),
-        None => Answer::NoToken,
-    }
+    on_last(array, &tokens.permits, |array, permit| {
+        Answer::Destage(array.destage(permit))
+    })
 }
 
 pub(super) fn flush<S: MemberStore, G: IntentLog, L: Layout>(
@@ -70,10 +69,9 @@ pub(super) fn flush<S: MemberStore, G: IntentLog, L: Layout>(
     ensures sound { Sound S.MemberStore.meaning G.IntentLog.meaning G.IntentLog.sound array.old → Sound S.MemberStore.meaning G.IntentLog.meaning G.IntentLog.sound array.new }
     ensures made { Sound S.MemberStore.meaning G.IntentLog.meaning G.IntentLog.sound array.old → Made L.Layout.arrangement call.Flush (counts_of tokens.now) (means S.MemberStore.meaning G.IntentLog.meaning array.old) result (counts_of tokens.now) (means S.MemberStore.meaning G.IntentLog.meaning array.new) }
 {
-    match tokens.permits.last() {
-        Some(permit) => Answer::Flush(array.flush(permit)),
-        None => Answer::NoToken,
-    }
+    on_last(array, &tokens.permits, |array, permit| {
+        Answer::Flush(array.flush(permit))
+    })
 }
 
 pub(super) fn close<S: MemberStore, G: IntentLog, L: Layout>(

@@ -6,6 +6,7 @@ ghost use Rattle.array.specs.Sound.{means, Sound};
 ghost use Rattle.array_run.specs.TokenCounts.{Grown, Room, counts_of};
 
 use crate::answer::Answer;
+use crate::last::on_last;
 use crate::tokens::Tokens;
 use array::array::Array;
 use array::refusal::FinishRefusal;
@@ -22,10 +23,9 @@ pub(super) fn step<S: MemberStore, G: IntentLog, L: Layout>(
     ensures sound { Sound S.MemberStore.meaning G.IntentLog.meaning G.IntentLog.sound array.old → Sound S.MemberStore.meaning G.IntentLog.meaning G.IntentLog.sound array.new }
     ensures made { Sound S.MemberStore.meaning G.IntentLog.meaning G.IntentLog.sound array.old → Made L.Layout.arrangement call.Step (counts_of tokens.now) (means S.MemberStore.meaning G.IntentLog.meaning array.old) result (counts_of tokens.now) (means S.MemberStore.meaning G.IntentLog.meaning array.new) }
 {
-    match tokens.tickets.last() {
-        Some(ticket) => Answer::Step(array.step(ticket)),
-        None => Answer::NoToken,
-    }
+    on_last(array, &tokens.tickets, |array, ticket| {
+        Answer::Step(array.step(ticket))
+    })
 }
 
 pub(super) fn finish<S: MemberStore, G: IntentLog, L: Layout>(
