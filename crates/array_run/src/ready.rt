@@ -41,6 +41,7 @@ pub(super) fn read<S: MemberStore, G: IntentLog, L: Layout>(
     ensures made { Sound S.MemberStore.meaning G.IntentLog.meaning G.IntentLog.sound array.old → Tries L.Layout.arrangement (call.Read block length) (counts_of tokens.now) (means S.MemberStore.meaning G.IntentLog.meaning array.old) result (counts_of tokens.now) (means S.MemberStore.meaning G.IntentLog.meaning array.new) }
 {
     let mut buffer = zero_buffer(heap, length)?;
+    // Kept: handed to `on_last`, the call would carry the buffer in and out, and be no plainer.
     match tokens.permits.last() {
         Some(permit) => {
             let outcome = array.read(permit, block, buffer.as_mut_slice());
