@@ -59,13 +59,9 @@ fn move_stripe<S: MemberStore, L: Layout>(
     ensures caches { MatchResult result (λ _. contents caches.new ≡ stripe_freed (members_of shape) (blocks_of shape) stripe (contents caches.old)) (λ _. contents caches.new ≡ contents caches.old) }
     ensures does { (l : LogMeaning) → Works (devices (destage_calls (stripe_at L.Layout.arrangement (members_of shape) stripe) (by_position (members_of shape) (blocks_of shape) (contents caches.old).destaging stripe) (S.MemberStore.meaning store.old)) ∷ []) (Moved stripe) (S.MemberStore.meaning store.old) l result (S.MemberStore.meaning store.new) l }
 {
-    match write_stripe(store, layout, shape, caches, stripe) {
-        Ok(()) => {
-            caches.free_stripe(shape, stripe);
-            Ok(Destage::Moved(stripe))
-        }
-        Err(e) => Err(device_refusal(e)),
-    }
+    write_stripe(store, layout, shape, caches, stripe).map_err(device_refusal)?;
+    caches.free_stripe(shape, stripe);
+    Ok(Destage::Moved(stripe))
 }
 
 // Names the stripes of the buffering cache, if it has any, and lets the caches change places.
@@ -81,16 +77,12 @@ fn change_caches<S: MemberStore, G: IntentLog>(
 {
     let list = caches.buffering_stripes(shape);
     let stripes = list.as_slice();
-    if stripes.len() == 0 {
+    if stripes.is_empty() {
         return Ok(Destage::Idle);
     }
-    match name_stripes(store, log, stripes) {
-        Ok(puts) => {
-            caches.change_places();
-            Ok(Destage::Changed(puts))
-        }
-        Err(e) => Err(e),
-    }
+    let puts = name_stripes(store, log, stripes)?;
+    caches.change_places();
+    Ok(Destage::Changed(puts))
 }
 
 /// One destage: moves the lowest stripe of the destaging cache. Where that cache is empty, names the stripes of the

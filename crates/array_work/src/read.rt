@@ -43,10 +43,8 @@ fn read_held<S: MemberStore, L: Layout>(
     ensures { Fetched (read_calls (sized L.Layout.arrangement shape) block) (held (sized L.Layout.arrangement shape) (S.MemberStore.meaning store.old) block) into.old into.new (S.MemberStore.meaning store.old) result (S.MemberStore.meaning store.new) }
 {
     let at = block_address(layout, shape, block);
-    match store.read(at.member, at.block, into) {
-        Ok(()) => Ok(()),
-        Err(e) => Err(ArrayRefusal::Members(e)),
-    }
+    store.read(at.member, at.block, into)?;
+    Ok(())
 }
 
 /// Reads a block: from the caches, the newest first, else from the member that has it. A refusal leaves the buffer as it was.
@@ -80,13 +78,9 @@ fn read_missing<S: MemberStore, L: Layout>(
     ensures { Fetched (other_reads (members_of shape) at.block at.member) (reconstructed (members_of shape) at.block at.member (S.MemberStore.meaning store.old)) into.old into.new (S.MemberStore.meaning store.old) result (S.MemberStore.meaning store.new) }
 {
     let mut bytes = [0u8; BLOCK_BYTES];
-    match reconstruct_block(store, layout, shape, at, &mut bytes) {
-        Ok(()) => {
-            into.copy_from_slice(&bytes);
-            Ok(())
-        }
-        Err(e) => Err(device_refusal(e)),
-    }
+    reconstruct_block(store, layout, shape, at, &mut bytes).map_err(device_refusal)?;
+    into.copy_from_slice(&bytes);
+    Ok(())
 }
 
 /// Reads a block without touching the absent member: a block that it has is worked out of the others. A refusal leaves

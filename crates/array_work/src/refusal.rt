@@ -11,8 +11,8 @@ pub(super) fn device_refusal(refusal: StripeRefusal) -> ArrayRefusal
 {
     match refusal {
         StripeRefusal::Device(e) => ArrayRefusal::Members(e),
-        StripeRefusal::NoStripe(_) => unreachable(),
-        StripeRefusal::NoMember(_) => unreachable(),
-        StripeRefusal::NoBlock(_) => unreachable(),
+        StripeRefusal::NoStripe(_) | StripeRefusal::NoMember(_) | StripeRefusal::NoBlock(_) => {
+            unreachable()
+        }
     }
 }
