@@ -12,6 +12,7 @@ use array_model::answer::Destage;
 use array_model::refusal::ArrayRefusal;
 use array_model::state::State;
 use array_work::destage::destage_once;
+use geometry::array_geometry::Geometry;
 use geometry::layout::Layout;
 use intent_log::IntentLog;
 use member_store::MemberStore;
@@ -26,11 +27,14 @@ impl<S: MemberStore, G: IntentLog, L: Layout> Array<S, G, L> {
         match self.state {
             State::Ready => {
                 let shape = shape_of(&self.store)?;
+                let geometry = Geometry {
+                    layout: &self.layout,
+                    shape,
+                };
                 let outcome = destage_once(
                     &mut self.store,
                     &mut self.log,
-                    &self.layout,
-                    shape,
+                    &geometry,
                     &mut self.caches,
                 );
                 or_fall(&mut self.state, outcome)

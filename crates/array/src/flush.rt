@@ -12,6 +12,7 @@ use array_model::answer::FlushCounts;
 use array_model::refusal::ArrayRefusal;
 use array_model::state::State;
 use array_work::flush::flush_all;
+use geometry::array_geometry::Geometry;
 use geometry::layout::Layout;
 use intent_log::IntentLog;
 use member_store::MemberStore;
@@ -25,11 +26,14 @@ impl<S: MemberStore, G: IntentLog, L: Layout> Array<S, G, L> {
         match self.state {
             State::Ready => {
                 let shape = shape_of(&self.store)?;
+                let geometry = Geometry {
+                    layout: &self.layout,
+                    shape,
+                };
                 let outcome = flush_all(
                     &mut self.store,
                     &mut self.log,
-                    &self.layout,
-                    shape,
+                    &geometry,
                     &mut self.caches,
                 );
                 or_fall(&mut self.state, outcome)

@@ -11,6 +11,7 @@ use crate::tokens::ReadyPermit;
 use array_model::refusal::ArrayRefusal;
 use array_model::state::State;
 use array_work::read::read_newest;
+use geometry::array_geometry::Geometry;
 use geometry::layout::Layout;
 use intent_log::IntentLog;
 use member_store::MemberStore;
@@ -30,10 +31,13 @@ impl<S: MemberStore, G: IntentLog, L: Layout> Array<S, G, L> {
         match self.state {
             State::Ready => {
                 let shape = check_block(&self.store, block, into.len())?;
+                let geometry = Geometry {
+                    layout: &self.layout,
+                    shape,
+                };
                 let outcome = read_newest(
                     &mut self.store,
-                    &self.layout,
-                    shape,
+                    &geometry,
                     &self.caches,
                     block,
                     into,

@@ -14,22 +14,13 @@ use crate::outcome::or_fall;
 use crate::tokens::ShortPermit;
 use array_model::refusal::ArrayRefusal;
 use array_model::state::State;
-use array_work::read::read_without;
+use array_work::read::{address_of_block, read_without};
+use block_address::Address;
+use geometry::array_geometry::Geometry;
 use geometry::layout::Layout;
-use geometry::place::Address;
 use geometry::shape::Shape;
 use intent_log::IntentLog;
 use member_store::MemberStore;
-
-// The member and the stripe of a block.
-fn place_of<L: Layout>(layout: &L, shape: Shape, block: usize) -> Address
-    requires { block < data_blocks (members_of shape) (blocks_of shape) }
-    ensures member { result.member ≡ holder (sized L.Layout.arrangement shape) block }
-    ensures stripe { result.block ≡ home (sized L.Layout.arrangement shape) block }
-    ensures small { result.block < 16777216 }
-{
-    shape.data_address(layout, block).unwrap()
-}
 
 // Is this not a named stripe's block on the absent member?
 fn check_absent<G: IntentLog>(log: &G, absent: usize, at: Address) -> Result<(), ArrayRefusal>
@@ -54,7 +45,8 @@ fn check_short<S: MemberStore, G: IntentLog, L: Layout>(
     ensures { ShortChecked L.Layout.arrangement (S.MemberStore.meaning store.now) (G.IntentLog.meaning log.now) (LogOn (G.IntentLog.sound log.now) (G.IntentLog.meaning log.now)) absent block length result }
 {
     let shape = check_block(store, block, length)?;
-    check_absent(log, absent, place_of(layout, shape, block))?;
+    let at = address_of_block(&Geometry { layout, shape }, block);
+    check_absent(log, absent, at)?;
     Ok(shape)
 }
 
@@ -81,10 +73,13 @@ impl<S: MemberStore, G: IntentLog, L: Layout> Array<S, G, L> {
                     block,
                     into.len(),
                 )?;
+                let geometry = Geometry {
+                    layout: &self.layout,
+                    shape,
+                };
                 let outcome = read_without(
                     &mut self.store,
-                    &self.layout,
-                    shape,
+                    &geometry,
                     absent,
                     block,
                     into,

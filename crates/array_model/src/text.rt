@@ -5,7 +5,8 @@ ghost use Rattle.array_model.specs.Text.{state_text, layer_text, detail_text, re
 use super::answer::{Destage, FlushCounts, ResyncCounts, TakenStripe};
 use super::refusal::{ArrayRefusal, BoxLayer, Detail};
 use super::state::State;
-use member_store::refusal::Place;
+use block_address::Address;
+use std::error::Error;
 use std::fmt;
 
 impl fmt::Display for State {
@@ -40,7 +41,7 @@ impl fmt::Display for Detail {
 
     fn fmt<W: fmt::Write>(&self, f: &mut fmt::Formatter<W>) -> fmt::Result {
         match self {
-            Detail::At(Place { member, block }) => write!(f, "{member} {block}"),
+            Detail::At(Address { member, block }) => write!(f, "{member} {block}"),
             Detail::Counts(members, blocks) => write!(f, "{members} {blocks}"),
             Detail::In(state) => write!(f, "{state}"),
             Detail::Number(number) => write!(f, "{number}"),
@@ -60,6 +61,8 @@ impl fmt::Display for ArrayRefusal {
         }
     }
 }
+
+impl Error for ArrayRefusal {}
 
 impl fmt::Display for TakenStripe {
     ghost output = { λ taken. Some (taken_text taken) };

@@ -11,6 +11,7 @@ use crate::destage::destage_once;
 use array_model::answer::{Destage, FlushCounts};
 use array_model::refusal::ArrayRefusal;
 use cache::caches::Caches;
+use geometry::array_geometry::Geometry;
 use geometry::layout::Layout;
 use geometry::shape::Shape;
 use intent_log::IntentLog;
@@ -20,16 +21,15 @@ use member_store::MemberStore;
 fn empty_caches<S: MemberStore, G: IntentLog, L: Layout>(
     store: &mut S,
     log: &mut G,
-    layout: &L,
-    shape: Shape,
+    geometry: &Geometry<L>,
     caches: &mut Caches,
 ) -> Result<FlushCounts, ArrayRefusal>
     ensures sound { G.IntentLog.sound log.old → G.IntentLog.sound log.new }
-    ensures does { G.IntentLog.sound log.old → (G.IntentLog.meaning log.old).on ≡ true → Empties (sized L.Layout.arrangement shape) (array_of Ready (contents caches.old) (S.MemberStore.meaning store.old) (G.IntentLog.meaning log.old)) result (array_of (state_after Ready result) (contents caches.new) (S.MemberStore.meaning store.new) (G.IntentLog.meaning log.new)) }
+    ensures does { G.IntentLog.sound log.old → (G.IntentLog.meaning log.old).on ≡ true → Empties (sized L.Layout.arrangement geometry.now.shape) (array_of Ready (contents caches.old) (S.MemberStore.meaning store.old) (G.IntentLog.meaning log.old)) result (array_of (state_after Ready result) (contents caches.new) (S.MemberStore.meaning store.new) (G.IntentLog.meaning log.new)) }
 {
     let mut counts = FlushCounts::default();
     loop {
-        match destage_once(store, log, layout, shape, caches)? {
+        match destage_once(store, log, geometry, caches)? {
             Destage::Moved(_) => counts.stripes += 1,
             Destage::Changed(puts) => counts.puts += puts,
             Destage::Idle => return Ok(counts),
@@ -41,14 +41,13 @@ fn empty_caches<S: MemberStore, G: IntentLog, L: Layout>(
 pub fn flush_all<S: MemberStore, G: IntentLog, L: Layout>(
     store: &mut S,
     log: &mut G,
-    layout: &L,
-    shape: Shape,
+    geometry: &Geometry<L>,
     caches: &mut Caches,
 ) -> Result<FlushCounts, ArrayRefusal>
     ensures sound { G.IntentLog.sound log.old → G.IntentLog.sound log.new }
-    ensures does { G.IntentLog.sound log.old → (G.IntentLog.meaning log.old).on ≡ true → FlushesReady (sized L.Layout.arrangement shape) (array_of Ready (contents caches.old) (S.MemberStore.meaning store.old) (G.IntentLog.meaning log.old)) result (array_of (state_after Ready result) (contents caches.new) (S.MemberStore.meaning store.new) (G.IntentLog.meaning log.new)) }
+    ensures does { G.IntentLog.sound log.old → (G.IntentLog.meaning log.old).on ≡ true → FlushesReady (sized L.Layout.arrangement geometry.now.shape) (array_of Ready (contents caches.old) (S.MemberStore.meaning store.old) (G.IntentLog.meaning log.old)) result (array_of (state_after Ready result) (contents caches.new) (S.MemberStore.meaning store.new) (G.IntentLog.meaning log.new)) }
 {
-    let counts = empty_caches(store, log, layout, shape, caches)?;
+    let counts = empty_caches(store, log, geometry, caches)?;
     store.barrier()?;
     Ok(counts)
 }

@@ -8,6 +8,7 @@ ghost use Rattle.array_model.specs.Calls.{format_actions};
 ghost use Rattle.array_work.specs.Outcomes.{sized, Works};
 
 use array_model::refusal::ArrayRefusal;
+use block_address::Address;
 use geometry::shape::Shape;
 use intent_log::IntentLog;
 use member_store::refusal::Refusal;
@@ -17,9 +18,9 @@ use member_store::{BLOCK_BYTES, MemberStore};
 fn zero_member<S: MemberStore>(store: &mut S, member: usize, blocks: usize) -> Result<(), Refusal>
     ensures { Performs (for_each (λ b. store_call member b zeros ∷ []) blocks) (S.MemberStore.meaning store.old) result (S.MemberStore.meaning store.new) }
 {
-    let zero = [0u8; BLOCK_BYTES];
+    let zero = [0; BLOCK_BYTES];
     for block in 0..blocks {
-        store.store(member, block, &zero)?;
+        store.store(Address { member, block }, &zero)?;
     }
     Ok(())
 }

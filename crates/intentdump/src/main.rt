@@ -4,6 +4,7 @@
 mod lines;
 
 use anyhow::anyhow;
+use block_address::Address;
 use flag_log::flag::FlagLog;
 use intent_log::IntentLog;
 use intent_log::refusal::LogRefusal;
@@ -70,12 +71,11 @@ fn asked(rt: &HostRuntime) -> anyhow::Result<Request> {
 fn tell_slot(
     rt: &HostRuntime,
     store: &mut MemoryStore,
-    member: usize,
-    block: usize,
+    at: Address,
     slot: usize,
 ) -> anyhow::Result<()> {
     let mut bytes = [0u8; BLOCK_BYTES];
-    if store.read(member, block, &mut bytes).is_err() {
+    if store.read(at, &mut bytes).is_err() {
         return Err(anyhow!("a slot cannot be read"));
     }
     let found = Record::decode(&bytes);
@@ -89,7 +89,11 @@ fn tell_slots(rt: &HostRuntime, store: &mut MemoryStore) -> anyhow::Result<()> {
         return Ok(());
     }
     for slot in 0..slots_of(members, store.blocks()) {
-        tell_slot(rt, store, slot % members, slot / members, slot)?;
+        let at = Address {
+            member: slot % members,
+            block: slot / members,
+        };
+        tell_slot(rt, store, at, slot)?;
     }
     Ok(())
 }

@@ -2,7 +2,7 @@
 use cut_script::{
     BLOCKS, FIRST_BARRIER, MEMBERS, Progress, SECOND_BARRIER, STORES, last_store, place_of,
 };
-use member_store::refusal::Place;
+use block_address::Address;
 use std::fmt;
 
 /// The array of blocks after the cut.
@@ -16,7 +16,7 @@ pub struct Report {
 /// A block after the cut.
 #[derive(Clone, Copy)]
 struct Row {
-    place: Place,
+    place: Address,
     progress: Progress,
     stands: u8,
 }
@@ -24,7 +24,7 @@ struct Row {
 // Writes the numbers of the stores above `after` and up to `to` that went to the block.
 fn write_stores<W: fmt::Write>(
     f: &mut fmt::Formatter<W>,
-    place: Place,
+    place: Address,
     after: u8,
     to: u8,
 ) -> fmt::Result {
@@ -78,7 +78,7 @@ impl fmt::Display for Report {
         write_cut(f, self.progress)?;
         for number in 0..MEMBERS * BLOCKS {
             let row = Row {
-                place: Place {
+                place: Address {
                     member: number % MEMBERS,
                     block: number / MEMBERS,
                 },

@@ -11,8 +11,10 @@ ghost use Rattle.simulate.specs.Counts.{wrong_stripes, named_stripes};
 use super::current::CurrentBytes;
 use array::array::Array;
 use array_model::state::State;
+use geometry::array_geometry::Geometry;
 use geometry::layout::Layout;
-use geometry::place::{Address, Location};
+use block_address::Address;
+use geometry::place::Location;
 use geometry::shape::Shape;
 use intent_log::IntentLog;
 use member_store::MemberStore;
@@ -32,39 +34,37 @@ pub struct Picture {
 }
 
 // Where the data at a position of a stripe lies.
-fn data_place<L: Layout>(layout: &L, shape: Shape, stripe: usize, position: usize) -> Address
-    requires { (stripe < stripe_count (blocks_of shape)) × (position < members_of shape - 1) }
-    ensures member { result.member ≡ (L.Layout.arrangement (members_of shape) stripe).member position }
+fn data_place<L: Layout>(geometry: &Geometry<L>, stripe: usize, position: usize) -> Address
+    requires { (stripe < stripe_count (blocks_of geometry.now.shape)) × (position < members_of geometry.now.shape - 1) }
+    ensures member { result.member ≡ (L.Layout.arrangement (members_of geometry.now.shape) stripe).member position }
     ensures block { result.block ≡ block_of_stripe stripe }
 {
-    shape
-        .position_address(layout, Location { stripe, position })
+    geometry.position_address(Location { stripe, position })
         .unwrap()
 }
 
 // Where the parity of a stripe lies.
-fn parity_place<L: Layout>(layout: &L, shape: Shape, stripe: usize) -> Address
-    requires { stripe < stripe_count (blocks_of shape) }
-    ensures member { result.member ≡ (L.Layout.arrangement (members_of shape) stripe).parity }
+fn parity_place<L: Layout>(geometry: &Geometry<L>, stripe: usize) -> Address
+    requires { stripe < stripe_count (blocks_of geometry.now.shape) }
+    ensures member { result.member ≡ (L.Layout.arrangement (members_of geometry.now.shape) stripe).parity }
     ensures block { result.block ≡ block_of_stripe stripe }
 {
-    shape.parity_address(layout, stripe).unwrap()
+    geometry.parity_address(stripe).unwrap()
 }
 
 // The data of a stripe by position, as it is now.
 fn copy_data<S: CurrentBytes, L: Layout>(
     store: &S,
-    layout: &L,
-    shape: Shape,
+    geometry: &Geometry<L>,
     stripe: usize,
     rows: &mut [[u8; 512]; MOST_POSITIONS],
 )
-    requires { stripe < stripe_count (blocks_of shape) }
-    ensures { InStore (stripe_at L.Layout.arrangement (members_of shape) stripe) (S.MemberStore.meaning store.now) → take (members_of shape - 1) rows.new ≡ stripe_data (stripe_at L.Layout.arrangement (members_of shape) stripe) (S.MemberStore.meaning store.now) }
+    requires { stripe < stripe_count (blocks_of geometry.now.shape) }
+    ensures { InStore (stripe_at L.Layout.arrangement (members_of geometry.now.shape) stripe) (S.MemberStore.meaning store.now) → take (members_of geometry.now.shape - 1) rows.new ≡ stripe_data (stripe_at L.Layout.arrangement (members_of geometry.now.shape) stripe) (S.MemberStore.meaning store.now) }
 {
     for position in 0..shape.members().positions() {
-        let at = data_place(layout, shape, stripe, position);
-        store.copy_current(at.member, at.block, &mut rows[position]);
+        let at = data_place(geometry, stripe, position);
+        store.copy_current(at, &mut rows[position]);
     }
 }
 
@@ -79,26 +79,26 @@ fn parity_of_rows(rows: &[[u8; 512]; MOST_POSITIONS], count: usize) -> [u8; 512]
 }
 
 // Is the parity of a stripe right now?
-fn is_right<S: CurrentBytes, L: Layout>(store: &S, layout: &L, shape: Shape, stripe: usize) -> bool
-    requires { stripe < stripe_count (blocks_of shape) }
-    ensures { InStore (stripe_at L.Layout.arrangement (members_of shape) stripe) (S.MemberStore.meaning store.now) → result ≡ parity_right (stripe_at L.Layout.arrangement (members_of shape) stripe) (S.MemberStore.meaning store.now) }
+fn is_right<S: CurrentBytes, L: Layout>(store: &S, geometry: &Geometry<L>, stripe: usize) -> bool
+    requires { stripe < stripe_count (blocks_of geometry.now.shape) }
+    ensures { InStore (stripe_at L.Layout.arrangement (members_of geometry.now.shape) stripe) (S.MemberStore.meaning store.now) → result ≡ parity_right (stripe_at L.Layout.arrangement (members_of geometry.now.shape) stripe) (S.MemberStore.meaning store.now) }
 {
     let mut rows = [[0u8; 512]; MOST_POSITIONS];
-    copy_data(store, layout, shape, stripe, &mut rows);
-    let sum = parity_of_rows(&rows, shape.members().positions());
-    let at = parity_place(layout, shape, stripe);
+    copy_data(store, geometry, stripe, &mut rows);
+    let sum = parity_of_rows(&rows, geometry.shape.members().positions());
+    let at = parity_place(geometry, stripe);
     let mut found = [0u8; 512];
-    store.copy_current(at.member, at.block, &mut found);
+    store.copy_current(at, &mut found);
     found == sum
 }
 
 // How many stripes of an array of this shape have wrong parity now.
-fn count_wrong<S: CurrentBytes, L: Layout>(store: &S, layout: &L, shape: Shape) -> usize
-    ensures { ((k : ℕ) → k < stripe_count (blocks_of shape) → InStore (stripe_at L.Layout.arrangement (members_of shape) k) (S.MemberStore.meaning store.now)) → result ≡ wrong_below L.Layout.arrangement (members_of shape) (S.MemberStore.meaning store.now) (stripe_count (blocks_of shape)) }
+fn count_wrong<S: CurrentBytes, L: Layout>(store: &S, geometry: &Geometry<L>) -> usize
+    ensures { ((k : ℕ) → k < stripe_count (blocks_of geometry.now.shape) → InStore (stripe_at L.Layout.arrangement (members_of geometry.now.shape) k) (S.MemberStore.meaning store.now)) → result ≡ wrong_below L.Layout.arrangement (members_of geometry.now.shape) (S.MemberStore.meaning store.now) (stripe_count (blocks_of geometry.now.shape)) }
 {
     let mut wrong = 0;
     for stripe in 0..shape.stripes() {
-        if !is_right(store, layout, shape, stripe) {
+        if !is_right(store, geometry, stripe) {
             wrong += 1;
         }
     }
@@ -110,7 +110,7 @@ fn wrong_stripes<S: CurrentBytes, L: Layout>(store: &S, layout: &L) -> usize
     ensures { result ≡ wrong_stripes L.Layout.arrangement (S.MemberStore.meaning store.now) }
 {
     match Shape::new(store.members(), store.blocks()) {
-        Ok(shape) => count_wrong(store, layout, shape),
+        Ok(shape) => count_wrong(store, &Geometry { layout, shape }),
         Err(_) => 0,
     }
 }

@@ -1,6 +1,8 @@
 // A file over the members of an array and back: laid out with parity, one member forgotten and worked out again.
+use geometry::array_geometry::Geometry;
 use geometry::layout::Layout;
-use geometry::place::{Address, Location};
+use block_address::Address;
+use geometry::place::Location;
 use geometry::shape::Shape;
 use member_store::MemberStore;
 use stripe_work::data::{CachedBlocks, MOST_POSITIONS};
@@ -49,13 +51,12 @@ fn stripe_blocks(file: &[u8], shape: Shape, stripe: usize) -> CachedBlocks {
 /// Lays the file over the members, stripe by stripe, with parity.
 pub fn lay_out<S: MemberStore, L: Layout>(
     store: &mut S,
-    layout: &L,
-    shape: Shape,
+    geometry: &Geometry<L>,
     file: &[u8],
 ) -> Result<(), StripeRefusal> {
     for stripe in 0..shape.stripes() {
-        let cached = stripe_blocks(file, shape, stripe);
-        if let Err(e) = destage_stripe(store, layout, shape, stripe, &cached) {
+        let cached = stripe_blocks(file, geometry.shape, stripe);
+        if let Err(e) = destage_stripe(store, geometry, stripe, &cached) {
             return Err(e);
         }
     }
@@ -65,7 +66,7 @@ pub fn lay_out<S: MemberStore, L: Layout>(
 /// Overwrites all blocks of a member.
 pub fn forget<S: MemberStore>(store: &mut S, member: usize) -> Result<(), StripeRefusal> {
     for block in 0..store.blocks() {
-        if let Err(e) = store.store(member, block, &FORGOTTEN) {
+        if let Err(e) = store.store(Address { member, block }, &FORGOTTEN) {
             return Err(StripeRefusal::Device(e));
         }
     }
@@ -75,18 +76,17 @@ pub fn forget<S: MemberStore>(store: &mut S, member: usize) -> Result<(), Stripe
 /// Works all blocks of a member out of the others and stores them; says how many.
 pub fn work_out<S: MemberStore, L: Layout>(
     store: &mut S,
-    layout: &L,
-    shape: Shape,
+    geometry: &Geometry<L>,
     member: usize,
 ) -> Result<usize, StripeRefusal> {
     let mut count = 0usize;
     for block in 0..shape.blocks() {
         let mut bytes = [0u8; 512];
         let at = Address { member, block };
-        if let Err(e) = reconstruct_block(store, layout, shape, at, &mut bytes) {
+        if let Err(e) = reconstruct_block(store, geometry, at, &mut bytes) {
             return Err(e);
         }
-        if let Err(e) = store.store(member, block, &bytes) {
+        if let Err(e) = store.store(at, &bytes) {
             return Err(StripeRefusal::Device(e));
         }
         count = count.saturating_add(1);
@@ -97,16 +97,15 @@ pub fn work_out<S: MemberStore, L: Layout>(
 // Does a block of the array hold that of the file?
 fn holds_block<S: MemberStore, L: Layout>(
     store: &mut S,
-    layout: &L,
-    shape: Shape,
+    geometry: &Geometry<L>,
     file: &[u8],
     block: usize,
 ) -> Result<bool, StripeRefusal> {
-    let Some(at) = shape.data_address(layout, block) else {
+    let Some(at) = geometry.data_address(block) else {
         return Ok(false);
     };
     let mut bytes = [0u8; 512];
-    if let Err(e) = store.read(at.member, at.block, &mut bytes) {
+    if let Err(e) = store.read(at, &mut bytes) {
         return Err(StripeRefusal::Device(e));
     }
     Ok(bytes == file_block(file, block))
@@ -115,13 +114,12 @@ fn holds_block<S: MemberStore, L: Layout>(
 /// Do the members hold all bytes of the file?
 pub fn holds_file<S: MemberStore, L: Layout>(
     store: &mut S,
-    layout: &L,
-    shape: Shape,
+    geometry: &Geometry<L>,
     file: &[u8],
 ) -> Result<bool, StripeRefusal> {
     let mut all = true;
     for block in 0..blocks_for(file.len()) {
-        match holds_block(store, layout, shape, file, block) {
+        match holds_block(store, geometry, file, block) {
             Ok(same) => all = all & same,
             Err(e) => return Err(e),
         }

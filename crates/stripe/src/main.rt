@@ -8,6 +8,7 @@ mod summary;
 mod words;
 
 use anyhow::anyhow;
+use geometry::array_geometry::Geometry;
 use geometry::layout::{Layout, LeftAsymmetric, LeftSymmetric, RightAsymmetric};
 use geometry::shape::{MemberCount, Shape};
 use member_store::MemberStore;
@@ -41,19 +42,18 @@ fn members_for(heap: Global, shape: Shape) -> anyhow::Result<MemoryStore> {
 // Lays the file out, loses a member and works it out again.
 fn carry_over<L: Layout>(
     store: &mut MemoryStore,
-    layout: &L,
-    shape: Shape,
+    geometry: &Geometry<L>,
     lost: usize,
     file: &[u8],
 ) -> Result<(usize, usize, bool), StripeRefusal> {
-    carry::lay_out(store, layout, shape, file)?;
+    carry::lay_out(store, geometry, file)?;
     carry::forget(store, lost)?;
-    let worked_out = carry::work_out(store, layout, shape, lost)?;
-    let wrong = match count_wrong_stripes(store, layout, shape) {
+    let worked_out = carry::work_out(store, geometry, lost)?;
+    let wrong = match count_wrong_stripes(store, geometry) {
         Ok(wrong) => wrong,
         Err(e) => return Err(StripeRefusal::Device(e)),
     };
-    let back = carry::holds_file(store, layout, shape, file)?;
+    let back = carry::holds_file(store, geometry, file)?;
     Ok((worked_out, wrong, back))
 }
 
@@ -69,12 +69,13 @@ fn summarize<L: Layout>(
         return Err(anyhow!("the array would be too large"));
     };
     let mut store = members_for(heap, shape)?;
-    match carry_over(&mut store, layout, shape, order.lost, file) {
+    let geometry = Geometry { layout, shape };
+    match carry_over(&mut store, &geometry, order.lost, file) {
         Ok((worked_out, wrong, back)) => Ok(Summary {
             bytes: file.len(),
             blocks,
             qualifier,
-            picture: summary::picture_of(layout, shape),
+            picture: summary::picture_of(&geometry),
             lost: order.lost,
             worked_out,
             wrong,

@@ -1,6 +1,8 @@
 // What was done, as text.
+use geometry::array_geometry::Geometry;
 use geometry::layout::Layout;
-use geometry::place::{Address, Content};
+use block_address::Address;
+use geometry::place::Content;
 use geometry::shape::{MOST_MEMBERS, Shape};
 use std::fmt;
 
@@ -41,28 +43,25 @@ pub struct Summary {
 }
 
 fn content_of<L: Layout>(
-    layout: &L,
-    shape: Shape,
+    geometry: &Geometry<L>,
     stripe: usize,
     member: usize,
 ) -> Option<Content> {
-    let at = shape.parity_address(layout, stripe)?;
-    shape.content(
-        layout,
-        Address {
+    let at = geometry.parity_address(stripe)?;
+    geometry.content(Address {
             member,
             block: at.block,
         },
     )
 }
 
-fn tally_of<L: Layout>(layout: &L, shape: Shape, member: usize) -> Tally {
+fn tally_of<L: Layout>(geometry: &Geometry<L>, member: usize) -> Tally {
     let mut tally = Tally {
         data_blocks: 0,
         parity_blocks: 0,
     };
     for stripe in 0..shape.stripes() {
-        match content_of(layout, shape, stripe, member) {
+        match content_of(geometry, stripe, member) {
             Some(Content::Data(_)) => tally.data_blocks = tally.data_blocks.saturating_add(1),
             Some(Content::Parity) => tally.parity_blocks = tally.parity_blocks.saturating_add(1),
             None => {}
@@ -71,31 +70,31 @@ fn tally_of<L: Layout>(layout: &L, shape: Shape, member: usize) -> Tally {
     tally
 }
 
-fn cells_of<L: Layout>(layout: &L, shape: Shape, stripe: usize) -> [Cell; MOST_MEMBERS] {
+fn cells_of<L: Layout>(geometry: &Geometry<L>, stripe: usize) -> [Cell; MOST_MEMBERS] {
     let mut cells = [Cell(None); MOST_MEMBERS];
     for member in 0..MOST_MEMBERS {
-        cells[member] = Cell(content_of(layout, shape, stripe, member));
+        cells[member] = Cell(content_of(geometry, stripe, member));
     }
     cells
 }
 
 /// What lies where in an array of this shape and layout.
-pub fn picture_of<L: Layout>(layout: &L, shape: Shape) -> Picture {
+pub fn picture_of<L: Layout>(geometry: &Geometry<L>) -> Picture {
     let empty = Tally {
         data_blocks: 0,
         parity_blocks: 0,
     };
     let mut tallies = [empty; MOST_MEMBERS];
     for member in 0..MOST_MEMBERS {
-        tallies[member] = tally_of(layout, shape, member);
+        tallies[member] = tally_of(geometry, member);
     }
     let mut cells = [[Cell(None); MOST_MEMBERS]; SHOWN];
     for stripe in 0..SHOWN {
-        cells[stripe] = cells_of(layout, shape, stripe);
+        cells[stripe] = cells_of(geometry, stripe);
     }
     Picture {
-        members: shape.members().get(),
-        stripes: shape.stripes(),
+        members: geometry.shape.members().get(),
+        stripes: geometry.shape.stripes(),
         tallies,
         cells,
     }
