@@ -1,5 +1,5 @@
 -- The destages of a flush, one after the other: what is known after each. Assumes nothing.
-use Rattle.std.proofs.Common.{◌≡◌, ℕ, ◌+◌, ◌<◌, ◌≤◌, true, Ok, ◌∙◌, subst, arith}
+use Rattle.std.proofs.Common.{◌≡◌, ℕ, ◌+◌, ◌<◌, ◌≤◌, true, Ok, subst, arith}
 use Rattle.member_store.specs.Meaning as members
 use Rattle.intent_log.specs.Meaning as intent
 use Rattle.cache.specs.Contents.{Contents}
