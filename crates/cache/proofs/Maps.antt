@@ -1,7 +1,6 @@
 -- Every slot changed in its place, as a loop does it. Assumes nothing.
-use Rattle.std.proofs.Common.{◌≡◌, ℕ, ◌+◌, ◌<◌, Bool, true, false, cond, ◌&&◌, eqb, List, ◌++◌, map, length, get_or, take, drop, set, Some, None, Option, sym, refl, ap, ◌∙◌, arith, length-append, length-drop}
+use Rattle.std.proofs.Common.{◌≡◌, ℕ, ◌+◌, ◌<◌, Bool, true, false, cond, ◌&&◌, List, ◌++◌, map, length, get_or, take, drop, set, Some, None, sym, refl, ap, ◌∙◌, arith, length-append, length-drop}
 use lib.ListN.{length-map}
-use Rattle.std.specs.Option.{option_eq}
 use Rattle.std.proofs.lemmas.List.{get_or_default, length-take-le}
 use Rattle.std.proofs.lemmas.List.Edits.{map_over_more}
 use Rattle.cache.specs.declared.slot.Cache.TheVariants.{Destaging}
@@ -17,11 +16,6 @@ map_turn f xs ys i x d l e h =
     let g = length-take-le i xs (omega arith) in
     let k = length-drop i xs in
     map_over_more f xs ys i x l e (sym (get_or_default ys i x d (omega arith) ∙ h))
-
--- a stripe compared as a whole
-pub number_eq : (s : ℕ) (r : Option ℕ) → option_eq eqb r (Some s) ≡ is_number s r
-number_eq s None = refl
-number_eq s (Some t) = refl
 
 -- a slot freed exactly where its block is of the stripe
 pub freed_if : (m n s : ℕ) (x : Slot) → slot_freed (in_stripe m n s) x ≡ cond (is_number s (slot_stripe m n Destaging x)) None x

@@ -4,7 +4,7 @@ ghost use Rattle.std.specs.Prelude.{◌≡◌, ℕ, ◌<◌, ◌≤◌, length, 
 use crate::slot::SLOTS;
 
 /// The stripes of a cache, rising, each once: at most one for each slot.
-// Kept: an array with its length, since nothing here may allocate and the list is Copy, which std's fixed lists are not.
+// Kept: an array with its length, since nothing here may allocate and the list is Copy, which an ArrayVec is not.
 #[derive(Clone, Copy)]
 pub struct StripeList {
     pub(super) numbers: [u32; SLOTS],

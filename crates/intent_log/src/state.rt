@@ -1,6 +1,6 @@
-// A log's state, whatever its record, in a file of its own, since the definitions that read it stand beside it.
+// The state that all logs have.
 
-/// What a log keeps in memory beside the store that it lies on.
+/// What a log keeps: the store that it lies on, and what power-on found there.
 #[derive(Drop)]
 pub struct LogState<S, R> {
     pub store: S,

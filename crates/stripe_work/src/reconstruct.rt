@@ -38,9 +38,10 @@ fn read_others<S: MemberStore>(
     ensures calls { Performs (other_reads (counted members) absent.block absent.member) (S.MemberStore.meaning store.old) result (S.MemberStore.meaning store.new) }
     ensures rows { OnOk result (take (counted members - 1) rows.new ≡ without absent.member (row_blocks (counted members) absent.block (S.MemberStore.meaning store.old))) }
 {
-    for row in 0..members.positions() {
+    let others = &mut rows[..members.positions()];
+    for (row, into) in others.iter_mut().enumerate() {
         let member = other_member(absent.member, row);
-        read_block(store, Address { member, ..absent }, &mut rows[row])?;
+        read_block(store, Address { member, ..absent }, into)?;
     }
     Ok(())
 }

@@ -1,4 +1,5 @@
-use Rattle.std.proofs.Common.{◌≡◌, ℕ, ◌-◌, ◌<◌, List, [], ◌∷◌, length, take, Err, sym, refl, ap, ◌∙◌, subst, arith, rules}
+use Rattle.std.proofs.Common.{◌≡◌, ℕ, ◌-◌, ◌<◌, ◌≤◌, List, [], ◌∷◌, length, take, Err, sym, refl, ap, ◌∙◌, subst, arith, rules}
+use Rattle.std.proofs.lemmas.List.{take-append-le}
 use Rattle.geometry.specs.Counts.{counted}
 use Rattle.geometry.specs.Layouts.{restarted}
 use Rattle.parity.specs.Xor.{without}
@@ -17,7 +18,7 @@ loop-row-init g c =
     let d = c.args.absent.member in (
       refl,
       first_row d (λ n. Completed (other_reads n b d) s s) (pass_absent b d s d refl) refl,
-      c.told-rows,
+      refl,
       first_row d (λ n. [] ≡ without d (row_blocks n b s)) (λ q. q ∙ sym (rest_absent (λ t. current s t b) d d refl)) refl,
     )
 
@@ -33,13 +34,13 @@ loop-row-preserved g c =
     let k = c.in_ok-read_block.ensures in
     let e = c.other_member-member.ensures in
     let cell : ℕ → List ℕ = (λ t. current s t b) in
-    let long : r < length c.loop-row.rows = omega arith in
+    let long : r < length c.loop-row.others = omega arith in
     let calls = subst (λ (t : ℕ). Completed (read t b ∷ []) u v) e k.calls in
     let got : c.read_block.new.into ≡ cell (restarted d r) = k.bytes.0 ∙ ap (λ m. current m c.other_member-member.result b) i.0 ∙ ap cell e in (
       k.bytes.1 ∙ i.0,
       next_row d (λ n. Completed (other_reads n b d) s s) (pass_absent b d s d refl) r (more_other b d s (restarted d r) u v (next_other d r) i.0 k.bytes.1 calls i.1),
       search rules,
-      more_row cell d c.loop-row.rows r c.read_block.new.into long i.3 got,
+      more_row cell d c.loop-row.others r c.read_block.new.into long i.3 got,
     )
 
 pub returns-in_err-read_block-clause-calls : goal.returns-in_err-read_block-clause-calls
@@ -66,8 +67,9 @@ returns g c =
     let m = counted c.args.members in
     let i = c.loop-row.invariant in
     let e : c.loop-row.row ≡ m - 1 = omega arith in
+    let long : m - 1 ≤ length c.loop-row.others = omega arith in
     let all = ap (restarted d) e ∙ next_last d m c.requires in
     record {
       calls = subst (λ u. Completed (other_reads m b d) s u) (sym i.0) (subst (λ (n : ℕ). Completed (other_reads n b d) s s) all i.1);
-      rows = ap (λ (n : ℕ). take n c.loop-row.rows) (sym e) ∙ i.3 ∙ ap (λ (n : ℕ). without d (row_blocks n b s)) all;
+      rows = take-append-le (m - 1) c.loop-row.others _ long ∙ ap (λ (n : ℕ). take n c.loop-row.others) (sym e) ∙ i.3 ∙ ap (λ (n : ℕ). without d (row_blocks n b s)) all;
     }

@@ -12,5 +12,5 @@ invariant-loop-row g l =
     let member = restarted l.absent.member l.row in
     (g.S.MemberStore.meaning l.store ≡ s)
     × Completed (other_reads member l.absent.block l.absent.member) s s
-    × (length l.rows ≡ 7)
-    × (take l.row l.rows ≡ without l.absent.member (row_blocks member l.absent.block s))
+    × (length l.others ≡ length l.initial.others)
+    × (take l.row l.others ≡ without l.absent.member (row_blocks member l.absent.block s))
