@@ -109,8 +109,9 @@ fn answers(heap: Global, text: &str) -> anyhow::Result<String> {
 }
 
 fn run(rt: &HostRuntime) -> anyhow::Result<()> {
-    let bytes = read_input(rt.alloc(), rt.stdin(), MOST_BYTES)?
-        .context("the script has more than 256 KiB")?;
+    let bytes = read_input(rt.alloc(), rt.stdin(), MOST_BYTES)?.context(
+        "the script has more than 256 KiB",
+    )?;
     let text = std::str::from_utf8(bytes.as_slice())
         .ok()
         .context("the script is no text")?;

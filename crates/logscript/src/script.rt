@@ -8,8 +8,7 @@ use program_parts::line_error::{LineError, NoForm};
 use program_parts::log_kind::LogKind;
 use program_parts::zeros::zeros;
 use std::alloc::{AllocError, Global};
-use std::str::FromStr;
-use std::str::SplitWhitespace;
+use std::str::{FromStr, SplitWhitespace};
 
 /// The most members, and the most blocks of one.
 const MOST_COUNT: usize = 64;

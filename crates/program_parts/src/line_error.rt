@@ -2,7 +2,7 @@
 ghost use Rattle.std.specs.Prelude.{◌≡◌};
 ghost use Rattle.program_parts.specs.declared.line_error.LineError.TheVariants.{NoForm as LineOfNoForm, OutOfMemory};
 
-use std::alloc::AllocFailed;
+use std::alloc::{AllocError, AllocFailed};
 use std::error::Error;
 use std::fmt;
 
@@ -29,7 +29,7 @@ impl fmt::Display for LineError {
     fn fmt<W: fmt::Write>(&self, f: &mut fmt::Formatter<W>) -> fmt::Result {
         f.write_str(match self {
             Self::NoForm => "no such form",
-            Self::OutOfMemory => "out of memory",
+            Self::OutOfMemory => "memory allocation failed",
         })
     }
 }
@@ -41,6 +41,14 @@ impl From<NoForm> for LineError {
 
     fn from(_error: NoForm) -> LineError {
         LineError::NoForm
+    }
+}
+
+impl From<AllocError> for LineError {
+    ghost from_gives = { λ _ e. e ≡ OutOfMemory };
+
+    fn from(_error: AllocError) -> LineError {
+        LineError::OutOfMemory
     }
 }
 

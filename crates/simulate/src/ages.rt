@@ -14,10 +14,7 @@ pub struct Ages {
 
 // Does a refused finish or close leave the token? It does where the state does not allow the call.
 fn leaves_token(refusal: &ArrayRefusal) -> bool {
-    match refusal {
-        ArrayRefusal::WrongState(_) => true,
-        _ => false,
-    }
+    matches!(refusal, ArrayRefusal::WrongState(_))
 }
 
 // The token that a call has taken, by what it answered.
@@ -40,7 +37,7 @@ fn taken(call: &Call, answer: &Answer) -> Option<TokenKind> {
 fn given(call: &Call, answer: &Answer) -> Option<TokenKind> {
     match (call, answer) {
         (Call::Open, Answer::Plain(Ok(()))) => Some(TokenKind::Resync),
-        (Call::OpenShort { absent: _ }, Answer::Plain(Ok(()))) => Some(TokenKind::Short),
+        (Call::OpenShort { .. }, Answer::Plain(Ok(()))) => Some(TokenKind::Short),
         (Call::Finish, Answer::Finish(Ok(_))) => Some(TokenKind::Ready),
         _ => None,
     }
@@ -62,12 +59,7 @@ impl Ages {
     fn place(&self, kind: TokenKind) -> Option<usize>
         ensures { NewestOf self.now.kinds.items kind result }
     {
-        for i in (0..self.kinds.len()).rev() {
-            if self.kinds[i] == kind {
-                return Some(i);
-            }
-        }
-        None
+        self.kinds.iter().rposition(|held| *held == kind)
     }
 
     fn forget(&mut self, kind: TokenKind)

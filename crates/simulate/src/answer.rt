@@ -57,16 +57,8 @@ fn done_word(command: Command) -> &'static str {
 fn fill_of(bytes: &[u8]) -> Option<u8>
     ensures { FillOf bytes.now result }
 {
-    if bytes.is_empty() {
-        return None;
-    }
-    let fill = bytes[0];
-    for byte in bytes {
-        if *byte != fill {
-            return None;
-        }
-    }
-    Some(fill)
+    let (fill, rest) = bytes.split_first()?;
+    rest.iter().all(|byte| byte == fill).then_some(*fill)
 }
 
 fn write_detail<W: fmt::Write>(f: &mut fmt::Formatter<W>, detail: Detail) -> fmt::Result {
@@ -95,14 +87,18 @@ fn write_refusal<W: fmt::Write>(f: &mut fmt::Formatter<W>, refusal: &ArrayRefusa
 
 fn write_step<W: fmt::Write>(f: &mut fmt::Formatter<W>, step: Option<TakenStripe>) -> fmt::Result {
     match step {
-        Some(TakenStripe {
-            stripe,
-            mended: true,
-        }) => write!(f, "stripe {stripe} mended"),
-        Some(TakenStripe {
-            stripe,
-            mended: false,
-        }) => write!(f, "stripe {stripe} right"),
+        Some(
+            TakenStripe {
+                stripe,
+                mended: true,
+            },
+        ) => write!(f, "stripe {stripe} mended"),
+        Some(
+            TakenStripe {
+                stripe,
+                mended: false,
+            },
+        ) => write!(f, "stripe {stripe} right"),
         None => f.write_str("none left"),
     }
 }

@@ -96,43 +96,30 @@ fn is_right<S: CurrentBytes, L: Layout>(store: &S, layout: &L, shape: Shape, str
 fn count_wrong<S: CurrentBytes, L: Layout>(store: &S, layout: &L, shape: Shape) -> usize
     ensures { ((k : ℕ) → k < stripe_count (blocks_of shape) → InStore (stripe_at L.Layout.arrangement (members_of shape) k) (S.MemberStore.meaning store.now)) → result ≡ wrong_below L.Layout.arrangement (members_of shape) (S.MemberStore.meaning store.now) (stripe_count (blocks_of shape)) }
 {
-    let mut wrong = 0;
-    for stripe in 0..shape.stripes() {
-        if !is_right(store, layout, shape, stripe) {
-            wrong += 1;
-        }
-    }
-    wrong
+    (0..shape.stripes())
+        .filter(|stripe| !is_right(store, layout, shape, *stripe))
+        .count()
 }
 
 // How many stripes have wrong parity now; counts outside the limits have none.
 fn wrong_stripes<S: CurrentBytes, L: Layout>(store: &S, layout: &L) -> usize
     ensures { result ≡ wrong_stripes L.Layout.arrangement (S.MemberStore.meaning store.now) }
 {
-    match Shape::new(store.members(), store.blocks()) {
-        Ok(shape) => count_wrong(store, layout, shape),
-        Err(_) => 0,
-    }
+    Shape::new(store.members(), store.blocks()).map_or(0, |shape| count_wrong(store, layout, shape))
 }
 
 // Does a record stand in a log that has power?
 fn has_record<G: IntentLog>(log: &G) -> bool
     ensures { G.IntentLog.sound log.now → result ≡ (if (G.IntentLog.meaning log.now).on then (G.IntentLog.meaning log.now).standing.stands else false) }
 {
-    match log.stands() {
-        Ok(stands) => stands,
-        Err(_) => false,
-    }
+    log.stands().unwrap_or(false)
 }
 
 // Is a stripe named by a log that has power?
 fn is_named<G: IntentLog>(log: &G, stripe: u32) -> bool
     ensures { G.IntentLog.sound log.now → (G.IntentLog.meaning log.now).on ≡ true → result ≡ (G.IntentLog.meaning log.now).standing.names stripe }
 {
-    match log.is_named(stripe) {
-        Ok(named) => named,
-        Err(_) => false,
-    }
+    log.is_named(stripe).unwrap_or(false)
 }
 
 // How many of the first stripes are named; none where the log has no power or no record stands.
