@@ -1,5 +1,5 @@
 // A script: which log, what stands in its store at first, and the commands.
-ghost use Rattle.std.specs.Prelude.{◌<◌, ◌≤◌};
+ghost use Rattle.std.specs.Prelude.{◌<◌, ◌≤◌, IfOk};
 
 use super::command::Command;
 use member_store::{BLOCK_BYTES, MemberStore};
@@ -57,7 +57,9 @@ impl FromStr for Head {
     }
 }
 
-fn count(word: Option<&str>) -> Result<usize, NoForm> {
+fn count(word: Option<&str>) -> Result<usize, NoForm>
+    ensures { IfOk result (λ n. (0 < n) × (n ≤ 64)) }
+{
     match word.ok_or(NoForm)?.parse() {
         Ok(n) if n >= 1 && n <= MOST_COUNT => Ok(n),
         _ => Err(NoForm),
