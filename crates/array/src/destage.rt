@@ -13,6 +13,7 @@ use array_model::answer::Destage;
 use array_model::refusal::ArrayRefusal;
 use array_model::state::State;
 use array_work::destage::destage_once;
+use geometry::array_geometry::Geometry;
 use geometry::layout::Layout;
 use intent_log::IntentLog;
 use member_store::MemberStore;
@@ -39,8 +40,10 @@ impl<S: MemberStore, G: IntentLog, L: Layout> Array<S, G, L> {
                 Ok(shape) => match destage_once(
                     &mut self.store,
                     &mut self.log,
-                    &self.layout,
-                    shape,
+                    &Geometry {
+                        layout: &self.layout,
+                        shape,
+                    },
                     &mut self.caches,
                 ) {
                     Ok(done) => Ok(done),

@@ -12,6 +12,7 @@ use array_model::answer::FlushCounts;
 use array_model::refusal::ArrayRefusal;
 use array_model::state::State;
 use array_work::flush::flush_all;
+use geometry::array_geometry::Geometry;
 use geometry::layout::Layout;
 use intent_log::IntentLog;
 use member_store::MemberStore;
@@ -27,8 +28,10 @@ impl<S: MemberStore, G: IntentLog, L: Layout> Array<S, G, L> {
                 Ok(shape) => match flush_all(
                     &mut self.store,
                     &mut self.log,
-                    &self.layout,
-                    shape,
+                    &Geometry {
+                        layout: &self.layout,
+                        shape,
+                    },
                     &mut self.caches,
                 ) {
                     Ok(counts) => Ok(counts),

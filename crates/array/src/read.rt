@@ -10,6 +10,7 @@ use crate::tokens::ReadyPermit;
 use array_model::refusal::ArrayRefusal;
 use array_model::state::State;
 use array_work::read::read_newest;
+use geometry::array_geometry::Geometry;
 use geometry::layout::Layout;
 use intent_log::IntentLog;
 use member_store::MemberStore;
@@ -30,8 +31,10 @@ impl<S: MemberStore, G: IntentLog, L: Layout> Array<S, G, L> {
             State::Ready => match check_block(&self.store, block, into.len()) {
                 Ok(shape) => match read_newest(
                     &mut self.store,
-                    &self.layout,
-                    shape,
+                    &Geometry {
+                        layout: &self.layout,
+                        shape,
+                    },
                     &self.caches,
                     block,
                     into,

@@ -14,20 +14,21 @@ use crate::tokens::ShortPermit;
 use array_model::refusal::ArrayRefusal;
 use array_model::state::State;
 use array_work::read::read_without;
+use geometry::array_geometry::Geometry;
 use geometry::layout::Layout;
-use geometry::place::Address;
+use block_address::Address;
 use geometry::shape::Shape;
 use intent_log::IntentLog;
 use member_store::MemberStore;
 
 // The member and the stripe of a block.
-fn place_of<L: Layout>(layout: &L, shape: Shape, block: usize) -> Address
-    requires { block < data_blocks (members_of shape) (blocks_of shape) }
-    ensures member { result.member ≡ holder (sized L.Layout.arrangement shape) block }
-    ensures stripe { result.block ≡ home (sized L.Layout.arrangement shape) block }
+fn place_of<L: Layout>(geometry: &Geometry<L>, block: usize) -> Address
+    requires { block < data_blocks (members_of geometry.now.shape) (blocks_of geometry.now.shape) }
+    ensures member { result.member ≡ holder (sized L.Layout.arrangement geometry.now.shape) block }
+    ensures stripe { result.block ≡ home (sized L.Layout.arrangement geometry.now.shape) block }
     ensures small { result.block < 16777216 }
 {
-    shape.data_address(layout, block).unwrap()
+    geometry.data_address(block).unwrap()
 }
 
 // Is this not a named stripe's block on the absent member?
@@ -61,7 +62,7 @@ fn check_short<S: MemberStore, G: IntentLog, L: Layout>(
     ensures { ShortChecked L.Layout.arrangement (S.MemberStore.meaning store.now) (G.IntentLog.meaning log.now) (LogOn (G.IntentLog.sound log.now) (G.IntentLog.meaning log.now)) absent block length result }
 {
     match check_block(store, block, length) {
-        Ok(shape) => match check_absent(log, absent, place_of(layout, shape, block)) {
+        Ok(shape) => match check_absent(log, absent, place_of(&Geometry { layout, shape }, block)) {
             Ok(()) => Ok(shape),
             Err(named) => Err(named),
         },
@@ -93,8 +94,10 @@ impl<S: MemberStore, G: IntentLog, L: Layout> Array<S, G, L> {
             ) {
                 Ok(shape) => match read_without(
                     &mut self.store,
-                    &self.layout,
-                    shape,
+                    &Geometry {
+                        layout: &self.layout,
+                        shape,
+                    },
                     absent,
                     block,
                     into,

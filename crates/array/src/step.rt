@@ -13,6 +13,7 @@ use array_model::answer::TakenStripe;
 use array_model::refusal::ArrayRefusal;
 use array_model::state::{Progress, State};
 use array_work::resync::take_stripe;
+use geometry::array_geometry::Geometry;
 use geometry::layout::Layout;
 use geometry::shape::Shape;
 use intent_log::IntentLog;
@@ -51,7 +52,14 @@ impl<S: MemberStore, G: IntentLog, L: Layout> Array<S, G, L> {
         ensures sound { LogOn (G.IntentLog.sound self.old.log) (G.IntentLog.meaning self.old.log) → Sized (S.MemberStore.meaning self.old.store) → Bounded progress → progress.next ≤ stripe → Sound S.MemberStore.meaning G.IntentLog.meaning G.IntentLog.sound self.new }
         ensures does { members_of shape ≡ (S.MemberStore.meaning self.old.store).members → blocks_of shape ≡ (S.MemberStore.meaning self.old.store).blocks → Bounded progress → Takes (geometry L.Layout.arrangement (means S.MemberStore.meaning G.IntentLog.meaning self.old)) progress stripe (means S.MemberStore.meaning G.IntentLog.meaning self.old) result (means S.MemberStore.meaning G.IntentLog.meaning self.new) }
     {
-        match take_stripe(&mut self.store, &self.layout, shape, stripe) {
+        match take_stripe(
+            &mut self.store,
+            &Geometry {
+                layout: &self.layout,
+                shape,
+            },
+            stripe,
+        ) {
             Ok(mended) => {
                 self.state = State::Resync(taken(progress, stripe, mended));
                 Ok(Some(TakenStripe { stripe, mended }))

@@ -1,7 +1,7 @@
 -- The number and the layer of a refusal, and what it tells besides.
 use Rattle.std.specs.Prelude.{ℕ, Bool, false, Some, None, Ok, Err, Option, Result, ◌==◌}
 use Rattle.member_store.specs.Refusals as store
-use Rattle.member_store.specs.declared.refusal.Place.{Place}
+use Rattle.block_address.specs.declared.Address.{Address}
 use Rattle.intent_log.specs.Refusals as intent
 use Rattle.intent_log.specs.declared.refusal.Layer.{Layer}
 use Rattle.intent_log.specs.declared.refusal.Layer.TheVariants as log_layer
@@ -47,7 +47,7 @@ layer (NoMember k) = layer_of.Array
 layer LogSpent = layer_of.Array
 
 -- the place of a device call, where there was one
-abbrev pub where_told : Option Place → Detail
+abbrev pub where_told : Option Address → Detail
 where_told None = Nothing
 where_told (Some p) = At p
 

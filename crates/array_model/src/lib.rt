@@ -12,7 +12,7 @@ pub mod refusal;
 pub mod state;
 
 use intent_log::refusal::{Layer, LogRefusal};
-use member_store::refusal::Place;
+use block_address::Address;
 use refusal::{ArrayRefusal, BoxLayer, Detail};
 
 /// The crash promise, proved: along every run of calls over every layout, member store and log, wherever power goes,
@@ -32,7 +32,7 @@ pub fn runs_exist() -> u8
     0
 }
 
-fn place_detail(place: Option<Place>) -> Detail
+fn place_detail(place: Option<Address>) -> Detail
     ensures { result ≡ where_told place }
 {
     match place {

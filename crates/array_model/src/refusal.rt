@@ -3,10 +3,11 @@ ghost use Rattle.std.specs.Prelude.{◌≡◌};
 ghost use Rattle.array_model.specs.declared.refusal.ArrayRefusal.TheVariants.{Members as FromMembers, Log as FromLog, Limits as FromLimits, NoSlot as FromSlot};
 
 use crate::state::State;
+use block_address::Address;
 use cache::caches::NoFreeSlot;
 use geometry::shape::OutOfLimits;
 use intent_log::refusal::LogRefusal;
-use member_store::refusal::{Place, Refusal};
+use member_store::refusal::Refusal;
 
 /// The part of a box that refused.
 #[derive(Clone, Copy, PartialEq, Eq, Debug)]
@@ -55,7 +56,7 @@ pub enum ArrayRefusal {
 pub enum Detail {
     Nothing,
     /// Where the device call without power was.
-    At(Place),
+    At(Address),
     /// Counts of members and blocks.
     Counts(usize, usize),
     /// The state that does not allow the call.

@@ -22,6 +22,7 @@ use array_model::answer::Destage;
 use array_model::refusal::ArrayRefusal;
 use cache::caches::Caches;
 use cache::slot::BLOCK_BYTES;
+use geometry::array_geometry::Geometry;
 use geometry::layout::Layout;
 use geometry::shape::{MOST_MEMBERS, Shape};
 use intent_log::IntentLog;
@@ -33,35 +34,33 @@ use stripe_work::refusal::StripeRefusal;
 // Writes a stripe's blocks in the destaging cache to the members, then its parity.
 fn write_stripe<S: MemberStore, L: Layout>(
     store: &mut S,
-    layout: &L,
-    shape: Shape,
+    geometry: &Geometry<L>,
     caches: &Caches,
     stripe: usize,
 ) -> Result<(), StripeRefusal>
-    ensures { Destages L.Layout.arrangement (members_of shape) (blocks_of shape) stripe (by_position (members_of shape) (blocks_of shape) (contents caches.now).destaging stripe) (S.MemberStore.meaning store.old) result (S.MemberStore.meaning store.new) }
+    ensures { Destages L.Layout.arrangement (members_of geometry.now.shape) (blocks_of geometry.now.shape) stripe (by_position (members_of geometry.now.shape) (blocks_of geometry.now.shape) (contents caches.now).destaging stripe) (S.MemberStore.meaning store.old) result (S.MemberStore.meaning store.new) }
 {
     let mut held = [false; MOST_MEMBERS];
     let mut rows = [[0u8; BLOCK_BYTES]; MOST_MEMBERS];
-    caches.destaging_blocks(shape, stripe, &mut held, &mut rows);
+    caches.destaging_blocks(geometry.shape, stripe, &mut held, &mut rows);
     let cached = cached_blocks(&held, &rows);
-    destage_stripe(store, layout, shape, stripe, &cached)
+    destage_stripe(store, geometry, stripe, &cached)
 }
 
 // Moves one stripe of the destaging cache to the members and frees its slots.
 fn move_stripe<S: MemberStore, L: Layout>(
     store: &mut S,
-    layout: &L,
-    shape: Shape,
+    geometry: &Geometry<L>,
     caches: &mut Caches,
     stripe: usize,
 ) -> Result<Destage, ArrayRefusal>
-    requires { stripe < stripe_count (blocks_of shape) }
-    ensures caches { MatchResult result (λ _. contents caches.new ≡ stripe_freed (members_of shape) (blocks_of shape) stripe (contents caches.old)) (λ _. contents caches.new ≡ contents caches.old) }
-    ensures does { (l : LogMeaning) → Works (devices (destage_calls (stripe_at L.Layout.arrangement (members_of shape) stripe) (by_position (members_of shape) (blocks_of shape) (contents caches.old).destaging stripe) (S.MemberStore.meaning store.old)) ∷ []) (Moved stripe) (S.MemberStore.meaning store.old) l result (S.MemberStore.meaning store.new) l }
+    requires { stripe < stripe_count (blocks_of geometry.now.shape) }
+    ensures caches { MatchResult result (λ _. contents caches.new ≡ stripe_freed (members_of geometry.now.shape) (blocks_of geometry.now.shape) stripe (contents caches.old)) (λ _. contents caches.new ≡ contents caches.old) }
+    ensures does { (l : LogMeaning) → Works (devices (destage_calls (stripe_at L.Layout.arrangement (members_of geometry.now.shape) stripe) (by_position (members_of geometry.now.shape) (blocks_of geometry.now.shape) (contents caches.old).destaging stripe) (S.MemberStore.meaning store.old)) ∷ []) (Moved stripe) (S.MemberStore.meaning store.old) l result (S.MemberStore.meaning store.new) l }
 {
-    match write_stripe(store, layout, shape, caches, stripe) {
+    match write_stripe(store, geometry, caches, stripe) {
         Ok(()) => {
-            caches.free_stripe(shape, stripe);
+            caches.free_stripe(geometry.shape, stripe);
             Ok(Destage::Moved(stripe))
         }
         Err(e) => Err(device_refusal(e)),
@@ -98,16 +97,15 @@ fn change_caches<S: MemberStore, G: IntentLog>(
 pub fn destage_once<S: MemberStore, G: IntentLog, L: Layout>(
     store: &mut S,
     log: &mut G,
-    layout: &L,
-    shape: Shape,
+    geometry: &Geometry<L>,
     caches: &mut Caches,
 ) -> Result<Destage, ArrayRefusal>
     ensures sound { G.IntentLog.sound log.old → G.IntentLog.sound log.new }
-    ensures caches { Drained (members_of shape) (blocks_of shape) (contents caches.old) result (contents caches.new) }
-    ensures does { G.IntentLog.sound log.old → (G.IntentLog.meaning log.old).on ≡ true → DestagesReady (sized L.Layout.arrangement shape) (array_of Ready (contents caches.old) (S.MemberStore.meaning store.old) (G.IntentLog.meaning log.old)) result (array_of (state_after Ready result) (contents caches.new) (S.MemberStore.meaning store.new) (G.IntentLog.meaning log.new)) }
+    ensures caches { Drained (members_of geometry.now.shape) (blocks_of geometry.now.shape) (contents caches.old) result (contents caches.new) }
+    ensures does { G.IntentLog.sound log.old → (G.IntentLog.meaning log.old).on ≡ true → DestagesReady (sized L.Layout.arrangement geometry.now.shape) (array_of Ready (contents caches.old) (S.MemberStore.meaning store.old) (G.IntentLog.meaning log.old)) result (array_of (state_after Ready result) (contents caches.new) (S.MemberStore.meaning store.new) (G.IntentLog.meaning log.new)) }
 {
-    match caches.lowest_destaging_stripe(shape) {
-        Some(stripe) => move_stripe(store, layout, shape, caches, stripe),
-        None => change_caches(store, log, shape, caches),
+    match caches.lowest_destaging_stripe(geometry.shape) {
+        Some(stripe) => move_stripe(store, geometry, caches, stripe),
+        None => change_caches(store, log, geometry.shape, caches),
     }
 }

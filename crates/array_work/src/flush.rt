@@ -11,6 +11,7 @@ use crate::destage::destage_once;
 use array_model::answer::{Destage, FlushCounts};
 use array_model::refusal::ArrayRefusal;
 use cache::caches::Caches;
+use geometry::array_geometry::Geometry;
 use geometry::layout::Layout;
 use geometry::shape::Shape;
 use intent_log::IntentLog;
@@ -20,17 +21,16 @@ use member_store::MemberStore;
 fn empty_caches<S: MemberStore, G: IntentLog, L: Layout>(
     store: &mut S,
     log: &mut G,
-    layout: &L,
-    shape: Shape,
+    geometry: &Geometry<L>,
     caches: &mut Caches,
 ) -> Result<FlushCounts, ArrayRefusal>
     ensures sound { G.IntentLog.sound log.old → G.IntentLog.sound log.new }
-    ensures does { G.IntentLog.sound log.old → (G.IntentLog.meaning log.old).on ≡ true → Empties (sized L.Layout.arrangement shape) (array_of Ready (contents caches.old) (S.MemberStore.meaning store.old) (G.IntentLog.meaning log.old)) result (array_of (state_after Ready result) (contents caches.new) (S.MemberStore.meaning store.new) (G.IntentLog.meaning log.new)) }
+    ensures does { G.IntentLog.sound log.old → (G.IntentLog.meaning log.old).on ≡ true → Empties (sized L.Layout.arrangement geometry.now.shape) (array_of Ready (contents caches.old) (S.MemberStore.meaning store.old) (G.IntentLog.meaning log.old)) result (array_of (state_after Ready result) (contents caches.new) (S.MemberStore.meaning store.new) (G.IntentLog.meaning log.new)) }
 {
     let mut stripes = 0;
     let mut puts = 0;
     'turn: loop {
-        match destage_once(store, log, layout, shape, caches) {
+        match destage_once(store, log, geometry, caches) {
             Ok(done) => match done {
                 Destage::Moved(_) => stripes += 1,
                 Destage::Changed(count) => puts += count,
@@ -45,14 +45,13 @@ fn empty_caches<S: MemberStore, G: IntentLog, L: Layout>(
 pub fn flush_all<S: MemberStore, G: IntentLog, L: Layout>(
     store: &mut S,
     log: &mut G,
-    layout: &L,
-    shape: Shape,
+    geometry: &Geometry<L>,
     caches: &mut Caches,
 ) -> Result<FlushCounts, ArrayRefusal>
     ensures sound { G.IntentLog.sound log.old → G.IntentLog.sound log.new }
-    ensures does { G.IntentLog.sound log.old → (G.IntentLog.meaning log.old).on ≡ true → FlushesReady (sized L.Layout.arrangement shape) (array_of Ready (contents caches.old) (S.MemberStore.meaning store.old) (G.IntentLog.meaning log.old)) result (array_of (state_after Ready result) (contents caches.new) (S.MemberStore.meaning store.new) (G.IntentLog.meaning log.new)) }
+    ensures does { G.IntentLog.sound log.old → (G.IntentLog.meaning log.old).on ≡ true → FlushesReady (sized L.Layout.arrangement geometry.now.shape) (array_of Ready (contents caches.old) (S.MemberStore.meaning store.old) (G.IntentLog.meaning log.old)) result (array_of (state_after Ready result) (contents caches.new) (S.MemberStore.meaning store.new) (G.IntentLog.meaning log.new)) }
 {
-    let counts = match empty_caches(store, log, layout, shape, caches) {
+    let counts = match empty_caches(store, log, geometry, caches) {
         Ok(counts) => counts,
         Err(refusal) => return Err(refusal),
     };

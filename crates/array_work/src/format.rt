@@ -8,6 +8,7 @@ ghost use Rattle.array_model.specs.Calls.{format_actions};
 ghost use Rattle.array_work.specs.Outcomes.{sized, Works};
 
 use array_model::refusal::ArrayRefusal;
+use block_address::Address;
 use geometry::shape::Shape;
 use intent_log::IntentLog;
 use member_store::refusal::Refusal;
@@ -19,7 +20,7 @@ fn zero_member<S: MemberStore>(store: &mut S, member: usize, blocks: usize) -> R
 {
     let zero = [0u8; BLOCK_BYTES];
     for block in 0..blocks {
-        if let Err(e) = store.store(member, block, &zero) {
+        if let Err(e) = store.store(Address { member, block }, &zero) {
             return Err(e);
         }
     }

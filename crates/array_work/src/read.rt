@@ -15,35 +15,35 @@ ghost use Rattle.array_work.specs.Outcomes.{sized, Fetched, state_after};
 use crate::refusal::device_refusal;
 use array_model::refusal::ArrayRefusal;
 use cache::caches::Caches;
+use geometry::array_geometry::Geometry;
 use geometry::layout::Layout;
-use geometry::place::Address;
+use block_address::Address;
 use geometry::shape::Shape;
 use member_store::{BLOCK_BYTES, MemberStore};
 use stripe_work::reconstruct::reconstruct_block;
 
 // Where a block of the array lies.
-fn block_address<L: Layout>(layout: &L, shape: Shape, block: usize) -> Address
-    requires { block < data_blocks (members_of shape) (blocks_of shape) }
-    ensures member { result.member ≡ holder (sized L.Layout.arrangement shape) block }
-    ensures block { result.block ≡ (stripe_of (sized L.Layout.arrangement shape) (home (sized L.Layout.arrangement shape) block)).block }
-    ensures there { address_check (members_of shape) (blocks_of shape) result ≡ NoneOf }
+fn block_address<L: Layout>(geometry: &Geometry<L>, block: usize) -> Address
+    requires { block < data_blocks (members_of geometry.now.shape) (blocks_of geometry.now.shape) }
+    ensures member { result.member ≡ holder (sized L.Layout.arrangement geometry.now.shape) block }
+    ensures block { result.block ≡ (stripe_of (sized L.Layout.arrangement geometry.now.shape) (home (sized L.Layout.arrangement geometry.now.shape) block)).block }
+    ensures there { address_check (members_of geometry.now.shape) (blocks_of geometry.now.shape) result ≡ NoneOf }
 {
-    shape.data_address(layout, block).unwrap()
+    geometry.data_address(block).unwrap()
 }
 
 // Reads a block from the member that has it.
 fn read_held<S: MemberStore, L: Layout>(
     store: &mut S,
-    layout: &L,
-    shape: Shape,
+    geometry: &Geometry<L>,
     block: usize,
     into: &mut [u8],
 ) -> Result<(), ArrayRefusal>
-    requires { (block < data_blocks (members_of shape) (blocks_of shape)) × (length into.old ≡ 512) }
-    ensures { Fetched (read_calls (sized L.Layout.arrangement shape) block) (held (sized L.Layout.arrangement shape) (S.MemberStore.meaning store.old) block) into.old into.new (S.MemberStore.meaning store.old) result (S.MemberStore.meaning store.new) }
+    requires { (block < data_blocks (members_of geometry.now.shape) (blocks_of geometry.now.shape)) × (length into.old ≡ 512) }
+    ensures { Fetched (read_calls (sized L.Layout.arrangement geometry.now.shape) block) (held (sized L.Layout.arrangement geometry.now.shape) (S.MemberStore.meaning store.old) block) into.old into.new (S.MemberStore.meaning store.old) result (S.MemberStore.meaning store.new) }
 {
-    let at = block_address(layout, shape, block);
-    match store.read(at.member, at.block, into) {
+    let at = block_address(geometry, block);
+    match store.read(at, into) {
         Ok(()) => Ok(()),
         Err(e) => Err(ArrayRefusal::Members(e)),
     }
@@ -52,35 +52,33 @@ fn read_held<S: MemberStore, L: Layout>(
 /// Reads a block: from the caches, the newest first, else from the member that has it. A refusal leaves the buffer as it was.
 pub fn read_newest<S: MemberStore, L: Layout>(
     store: &mut S,
-    layout: &L,
-    shape: Shape,
+    geometry: &Geometry<L>,
     caches: &Caches,
     block: usize,
     into: &mut [u8],
 ) -> Result<(), ArrayRefusal>
-    requires { (block < data_blocks (members_of shape) (blocks_of shape)) × (length into.old ≡ 512) }
-    ensures { (q : State) (l : LogMeaning) → ReadsNewest (sized L.Layout.arrangement shape) block into.old into.new (array_of q (contents caches.now) (S.MemberStore.meaning store.old) l) result (array_of (state_after q result) (contents caches.now) (S.MemberStore.meaning store.new) l) }
+    requires { (block < data_blocks (members_of geometry.now.shape) (blocks_of geometry.now.shape)) × (length into.old ≡ 512) }
+    ensures { (q : State) (l : LogMeaning) → ReadsNewest (sized L.Layout.arrangement geometry.now.shape) block into.old into.new (array_of q (contents caches.now) (S.MemberStore.meaning store.old) l) result (array_of (state_after q result) (contents caches.now) (S.MemberStore.meaning store.new) l) }
 {
     if let Some(bytes) = caches.find(block) {
         into.copy_from_slice(bytes);
         return Ok(());
     }
-    read_held(store, layout, shape, block, into)
+    read_held(store, geometry, block, into)
 }
 
 // Works a block out of the other members, and does not touch its own.
 fn read_missing<S: MemberStore, L: Layout>(
     store: &mut S,
-    layout: &L,
-    shape: Shape,
+    geometry: &Geometry<L>,
     at: Address,
     into: &mut [u8],
 ) -> Result<(), ArrayRefusal>
-    requires { (address_check (members_of shape) (blocks_of shape) at ≡ NoneOf) × (length into.old ≡ 512) }
-    ensures { Fetched (other_reads (members_of shape) at.block at.member) (reconstructed (members_of shape) at.block at.member (S.MemberStore.meaning store.old)) into.old into.new (S.MemberStore.meaning store.old) result (S.MemberStore.meaning store.new) }
+    requires { (address_check (members_of geometry.now.shape) (blocks_of geometry.now.shape) at ≡ NoneOf) × (length into.old ≡ 512) }
+    ensures { Fetched (other_reads (members_of geometry.now.shape) at.block at.member) (reconstructed (members_of geometry.now.shape) at.block at.member (S.MemberStore.meaning store.old)) into.old into.new (S.MemberStore.meaning store.old) result (S.MemberStore.meaning store.new) }
 {
     let mut bytes = [0u8; BLOCK_BYTES];
-    match reconstruct_block(store, layout, shape, at, &mut bytes) {
+    match reconstruct_block(store, geometry, at, &mut bytes) {
         Ok(()) => {
             into.copy_from_slice(&bytes);
             Ok(())
@@ -93,18 +91,17 @@ fn read_missing<S: MemberStore, L: Layout>(
 /// the buffer as it was.
 pub fn read_without<S: MemberStore, L: Layout>(
     store: &mut S,
-    layout: &L,
-    shape: Shape,
+    geometry: &Geometry<L>,
     absent: usize,
     block: usize,
     into: &mut [u8],
 ) -> Result<(), ArrayRefusal>
-    requires { (block < data_blocks (members_of shape) (blocks_of shape)) × (length into.old ≡ 512) }
-    ensures { (q : State) (c : Contents) (l : LogMeaning) → ReadsWithout (sized L.Layout.arrangement shape) absent block into.old into.new (array_of q c (S.MemberStore.meaning store.old) l) result (array_of (state_after q result) c (S.MemberStore.meaning store.new) l) }
+    requires { (block < data_blocks (members_of geometry.now.shape) (blocks_of geometry.now.shape)) × (length into.old ≡ 512) }
+    ensures { (q : State) (c : Contents) (l : LogMeaning) → ReadsWithout (sized L.Layout.arrangement geometry.now.shape) absent block into.old into.new (array_of q c (S.MemberStore.meaning store.old) l) result (array_of (state_after q result) c (S.MemberStore.meaning store.new) l) }
 {
-    let at = block_address(layout, shape, block);
+    let at = block_address(geometry, block);
     if at.member == absent {
-        return read_missing(store, layout, shape, at, into);
+        return read_missing(store, geometry, at, into);
     }
-    read_held(store, layout, shape, block, into)
+    read_held(store, geometry, block, into)
 }

@@ -10,6 +10,7 @@ ghost use Rattle.array_work.specs.Outcomes.{FindsDue, Below, Works};
 
 use crate::refusal::device_refusal;
 use array_model::refusal::ArrayRefusal;
+use geometry::array_geometry::Geometry;
 use geometry::layout::Layout;
 use geometry::shape::Shape;
 use intent_log::IntentLog;
@@ -54,14 +55,13 @@ pub fn next_due<G: IntentLog>(
 /// Takes one stripe of the array: reads it, and stores its parity where that was wrong. Answers whether it did.
 pub fn take_stripe<S: MemberStore, L: Layout>(
     store: &mut S,
-    layout: &L,
-    shape: Shape,
+    geometry: &Geometry<L>,
     stripe: usize,
 ) -> Result<bool, ArrayRefusal>
-    requires { stripe < stripe_count (blocks_of shape) }
-    ensures { (l : LogMeaning) → Works (devices (resync_calls (stripe_at L.Layout.arrangement (members_of shape) stripe) (S.MemberStore.meaning store.old)) ∷ []) (not (parity_right (stripe_at L.Layout.arrangement (members_of shape) stripe) (S.MemberStore.meaning store.old))) (S.MemberStore.meaning store.old) l result (S.MemberStore.meaning store.new) l }
+    requires { stripe < stripe_count (blocks_of geometry.now.shape) }
+    ensures { (l : LogMeaning) → Works (devices (resync_calls (stripe_at L.Layout.arrangement (members_of geometry.now.shape) stripe) (S.MemberStore.meaning store.old)) ∷ []) (not (parity_right (stripe_at L.Layout.arrangement (members_of geometry.now.shape) stripe) (S.MemberStore.meaning store.old))) (S.MemberStore.meaning store.old) l result (S.MemberStore.meaning store.new) l }
 {
-    match resync_stripe(store, layout, shape, stripe) {
+    match resync_stripe(store, geometry, stripe) {
         Ok(mended) => Ok(mended),
         Err(e) => Err(device_refusal(e)),
     }

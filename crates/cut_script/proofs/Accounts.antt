@@ -4,7 +4,7 @@ use Rattle.std.proofs.lemmas.Bool.{cases_eq}
 use Rattle.member_store.specs.Meaning.{Meaning, Version, current, HasBlock}
 use Rattle.member_store.specs.Calls.{SameCounts, Stored, Barred, Stores, Bars, checks, barrier_checks}
 use Rattle.member_store.specs.declared.refusal.Refusal.{Refusal}
-use Rattle.member_store.specs.declared.refusal.Place.{Place}
+use Rattle.block_address.specs.declared.Address.{Address}
 use Rattle.member_store.proofs.Refusals.{refused_cases}
 use Rattle.cut_script.specs.Script.{place, LastStore}
 use Rattle.cut_script.specs.Account.{fill, at, StoredSince, StoodAtBarrier, Accounted}
@@ -15,7 +15,7 @@ pub record Account (s t : Meaning) (made barred : ℕ) : Type 0 where
   pub versions : Accounted s made barred t
   pub last : (m b : ℕ) → HasBlock s m b → (k : ℕ) × LastStore (at m b) made k × (1 ≤ k → current t m b ≡ fill k)
 
-none_yet : (p : Place) → LastStore p 0 0
+none_yet : (p : Address) → LastStore p 0 0
 none_yet p = (omega arith, inl refl, λ k l h e. omega arith)
 
 pub start : (s : Meaning) → Account s s 0 0
@@ -40,10 +40,10 @@ here_or_not n m b =
 parts : (n m b : ℕ) → place n ≡ at m b → (m ≡ (place n).member) × (b ≡ (place n).block)
 parts n m b e = (sym (ap (λ p. p.member) e), sym (ap (λ p. p.block) e))
 
-last_here : (p : Place) (n : ℕ) → place n ≡ p → LastStore p n n
+last_here : (p : Address) (n : ℕ) → place n ≡ p → LastStore p n n
 last_here p n e = (omega arith, inr e, λ k l h f. omega arith)
 
-last_not : (p : Place) (d n k : ℕ) → n ≡ d + 1 → (place n ≡ p → ⊥) → LastStore p d k → LastStore p n k
+last_not : (p : Address) (d n k : ℕ) → n ≡ d + 1 → (place n ≡ p → ⊥) → LastStore p d k → LastStore p n k
 last_not p d n k e differ l = (
   (let x = l.0 in omega arith),
   l.1,

@@ -2,14 +2,14 @@
 -- came after some of them: those stored since, or what the block had at that barrier.
 use Rattle.std.specs.Prelude.{◌≡◌, ℕ, ◌/◌, ◌%◌, ◌<◌, ◌≤◌, ◌⊎◌, List, replicate, slice_index}
 use Rattle.member_store.specs.Meaning.{Meaning, Version, HasBlock, current}
-use Rattle.member_store.specs.declared.refusal.Place.{Place}
+use Rattle.block_address.specs.declared.Address.{Address}
 use Rattle.cut_script.specs.Script.{place, LastStore}
 
 -- The bytes of store n.
 abbrev pub fill : ℕ → List ℕ
 fill n = replicate 512 n
 
-abbrev pub at : ℕ → ℕ → Place
+abbrev pub at : ℕ → ℕ → Address
 at m b = record { member = m; block = b }
 
 -- The bytes v were stored in block b of member m after the first `barred` stores and among the first `made`.

@@ -5,7 +5,8 @@ ghost use Rattle.std.specs.Prelude.{◌≡◌, ◌≤◌, IfOk};
 ghost use Rattle.cut_script.specs.Account.{Accounted, FirstBytes};
 ghost use Rattle.cut_script.specs.Script.{place as place_of, barrier_after, LastStore};
 
-use member_store::refusal::{Place, Refusal};
+use block_address::Address;
+use member_store::refusal::Refusal;
 use member_store::{BLOCK_BYTES, MemberStore};
 
 /// The stores, numbered from 1; each fills its block with its number.
@@ -41,7 +42,7 @@ pub fn place_of(store: u8) -> Place
 {
     let n = usize::from(store);
     let number = n * (n + 1) / 2 % (MEMBERS * BLOCKS);
-    Place {
+    Address {
         member: number % MEMBERS,
         block: number / MEMBERS,
     }
@@ -61,7 +62,7 @@ pub fn run<S: MemberStore>(store: &mut S) -> Progress
     let mut barred = 0;
     for number in 1..STORES + 1 {
         let place = place_of(number);
-        if let Err(e) = store.store(place.member, place.block, &[number; BLOCK_BYTES]) {
+        if let Err(e) = store.store(place, &[number; BLOCK_BYTES]) {
             return Progress {
                 made: number,
                 barred,
@@ -87,7 +88,7 @@ pub fn run<S: MemberStore>(store: &mut S) -> Progress
 }
 
 /// The last of the first `count` stores to a block, 0 where there is none.
-pub fn last_store(place: Place, count: u8) -> u8
+pub fn last_store(place: Address, count: u8) -> u8
     ensures { LastStore place count result }
 {
     let mut last = 0;
@@ -106,9 +107,13 @@ pub fn standing<S: MemberStore>(store: &mut S) -> Result<[u8; 8], Refusal>
     let mut stands = [0u8; 8];
     for number in 0..MEMBERS * BLOCKS {
         let mut into = [0u8; BLOCK_BYTES];
-        if let Err(e) = store.read(number % MEMBERS, number / MEMBERS, &mut into) {
-            return Err(e);
-        }
+        store.read(
+            Address {
+                member: number % MEMBERS,
+                block: number / MEMBERS,
+            },
+            &mut into,
+        )?;
         stands[number] = into[0];
     }
     Ok(stands)

@@ -31,9 +31,6 @@ stopped_split (x ∷ xs) ys s e t (inr a) =
     (λ k. inr (k.0, (a.0, a.1, k.1), k.2))
     (stopped_split xs ys a.0 e t a.2)
 
-pub completed_one : (o : DeviceCall) (s t : Meaning) → Accepted o s t → Completed (o ∷ []) s t
-completed_one o s t d = (t, d, refl)
-
 -- a list that was completed, then one that is performed
 pub performs_then : {U : Type 0} (xs ys : List DeviceCall) (s u t : Meaning) (r : Result U Refusal) → Completed xs s u → Performs ys u r t → Performs (xs ++ ys) s r t
 performs_then xs ys s u t (Ok v) d p = completed_then xs ys s u t d p

@@ -5,7 +5,8 @@ use Rattle.member_store.specs.Calls.{SameCounts, Cut, CutStore, checks, barrier_
 use Rattle.member_store.specs.Refusals.{IsPowerOff, off_at, off_at_barrier}
 use Rattle.member_store.specs.declared.refusal.Refusal.{Refusal}
 use Rattle.member_store.proofs.Checks.{passed, passing}
-use Rattle.member_store.proofs.Refusals.{refused_cases, some≢none}
+use Rattle.member_store.proofs.Refusals.{refused_cases}
+use Rattle.std.proofs.lemmas.Option.{none-some}
 use Rattle.device_calls.specs.Lists.{DeviceCall, read, store, barrier, Accepted, Rejected, Completed, Stopped}
 use Rattle.device_calls.specs.Effects.{Every, InRange, Spares, Reading, Writes, Written, Gains, CutShort}
 
@@ -147,14 +148,14 @@ module _ (s : Meaning) (e : Refusal) (t : Meaning) where
 
   -- where the checks failed and the store has the block, power was off already
   was_off : (m b : ℕ) → HasBlock s m b → checks s m b 512 ≡ Some e → (q : Bool) → s.on ≡ q → (s.on ≡ false) × (e ≡ off_at m b)
-  was_off m b p h true on = absurd (some≢none (sym h ∙ passing s.on s.members s.blocks m b 512 (record { on = on; member = p.0; block = p.1; long = refl })))
+  was_off m b p h true on = absurd (none-some e (sym (passing s.on s.members s.blocks m b 512 (record { on = on; member = p.0; block = p.1; long = refl })) ∙ h))
   was_off m b p h false on = (on, some_same (sym h ∙ simp on))
     where
       some_same : Some e ≡ Some (off_at m b) → e ≡ off_at m b
       some_same k = cc
 
   barrier_off : barrier_checks s ≡ Some e → (q : Bool) → s.on ≡ q → (s.on ≡ false) × (e ≡ off_at_barrier)
-  barrier_off h true on = absurd (some≢none (sym h ∙ simp on))
+  barrier_off h true on = absurd (none-some e (simp on at h))
   barrier_off h false on = (on, some_same (sym h ∙ simp on))
     where
       some_same : Some e ≡ Some off_at_barrier → e ≡ off_at_barrier

@@ -12,12 +12,19 @@ ghost use Rattle.flag_log.specs.Puts.{first_block, standing_from};
 
 pub mod flag;
 
+use block_address::Address;
 use device_calls::store_and_bar;
 use flag::{FlagLog, FlagRecord};
 use intent_log::refusal::LogRefusal;
 use intent_log::{IntentLog, is_list};
 use member_store::MemberStore;
 use zero_bytes::all_zero;
+
+// Where the record lies.
+const FIRST: Address = Address {
+    member: 0,
+    block: 0,
+};
 
 /// The length of a block.
 pub const BLOCK: usize = 512;
@@ -63,7 +70,7 @@ fn record_in(bytes: &[u8]) -> Option<FlagRecord>
 fn store_record<S: MemberStore>(store: &mut S, bytes: &[u8; BLOCK]) -> Result<(), LogRefusal>
     ensures { Makes (storing 0 0 bytes.now ∷ barring ∷ []) (S.MemberStore.meaning store.old) result (S.MemberStore.meaning store.new) }
 {
-    if let Err(e) = store_and_bar(store, 0, 0, bytes) {
+    if let Err(e) = store_and_bar(store, FIRST, bytes) {
         return Err(LogRefusal::Store(e));
     }
     Ok(())
@@ -240,7 +247,7 @@ impl<S: MemberStore> IntentLog for FlagLog<S> {
         self.awake = false;
         self.store.power_on();
         let mut bytes = [0u8; BLOCK];
-        if let Err(e) = self.store.read(0, 0, &mut bytes) {
+        if let Err(e) = self.store.read(FIRST, &mut bytes) {
             return Err(LogRefusal::Store(e));
         }
         self.standing = record_in(&bytes);

@@ -7,8 +7,9 @@ ghost use Rattle.member_store.specs.Calls.{checks, barrier_checks, Reads, Stores
 ghost use Rattle.fuse.specs.Fused.{fused, blows as blows_at, less, Counts, Passes};
 ghost use Rattle.std.proofs.Common.{rules};
 
-use member_store::refusal::{Place, Refusal};
-use member_store::{MemberStore, first_refusal};
+use block_address::Address;
+use member_store::MemberStore;
+use member_store::refusal::Refusal;
 
 /// A store that loses power when its setting is used up; without a setting it never does.
 #[derive(Drop)]
@@ -16,6 +17,7 @@ pub struct Fuse<S> {
     below: S,
     // how many stores and barriers may still act
     left: Option<usize>,
+    // Kept: no enum of states takes the place of the two, since a blown fuse also holds the setting that `set` gives it.
     blown: bool,
 }
 
@@ -51,26 +53,8 @@ impl<S: MemberStore> Fuse<S> {
     pub fn into_below(self) -> S
         ensures { result ≡ self.below }
     {
-        let Fuse {
-            below,
-            left: _,
-            blown: _,
-        } = self;
+        let Fuse { below, .. } = self;
         below
-    }
-
-    // The checks of a read or a store of `len` bytes.
-    fn refusal_of(&self, member: usize, block: usize, len: usize) -> Option<Refusal>
-        ensures { result ≡ checks (fused self.now.blown (S.MemberStore.meaning self.now.below)) member block len }
-    {
-        first_refusal(
-            self.powered(),
-            self.members(),
-            self.blocks(),
-            member,
-            block,
-            len,
-        )
     }
 
     // Counts a valid store or barrier; says whether power goes in it.
@@ -123,21 +107,19 @@ impl<S: MemberStore> MemberStore for Fuse<S> {
         self.below.blocks()
     }
 
-    fn read(&mut self, member: usize, block: usize, into: &mut [u8]) -> Result<(), Refusal> {
+    fn read(&mut self, at: Address, into: &mut [u8]) -> Result<(), Refusal> {
         if self.blown {
-            return Err(Refusal::PowerOff(Some(Place { member, block })));
+            return Err(Refusal::PowerOff(Some(at)));
         }
-        self.below.read(member, block, into)
+        self.below.read(at, into)
     }
 
-    fn store(&mut self, member: usize, block: usize, bytes: &[u8]) -> Result<(), Refusal> {
-        if let Some(e) = self.refusal_of(member, block, bytes.len()) {
-            return Err(e);
-        }
+    fn store(&mut self, at: Address, bytes: &[u8]) -> Result<(), Refusal> {
+        self.check_access(at, bytes.len())?;
         if self.blows() {
-            return Err(Refusal::PowerOff(Some(Place { member, block })));
+            return Err(Refusal::PowerOff(Some(at)));
         }
-        self.below.store(member, block, bytes)
+        self.below.store(at, bytes)
     }
 
     fn barrier(&mut self) -> Result<(), Refusal> {

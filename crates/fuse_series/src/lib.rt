@@ -1,18 +1,18 @@
 // A fuse that each power-on sets again, from a series of settings: a script can so cut power many times.
 #![tactic(auto)]
 
-ghost use Rattle.std.specs.Prelude.{◌≡◌, false, length, None as Unset};
-ghost use Rattle.member_store.specs.Refusals.{off_at, off_at_barrier};
-ghost use Rattle.member_store.specs.Calls.{checks, barrier_checks, Reads, Stores, Bars, PoweredOn};
-ghost use Rattle.fuse.specs.Fused.{fused, Counts, Passes};
+ghost use Rattle.std.specs.Prelude.{◌≡◌, false, None as Unset};
+ghost use Rattle.member_store.specs.Calls.{PoweredOn};
 ghost use Rattle.fuse_series.specs.Series.{next_setting, later_settings};
 ghost use Rattle.std.proofs.Common.{rules};
 
+use block_address::Address;
 use fuse::Fuse;
 use member_store::MemberStore;
 use member_store::refusal::Refusal;
 
 /// A fuse, and the settings of the power-ons to come.
+// Kept: not one type with the remote fuse, which is set before each call and not at power-on, and of which less can be proved.
 #[derive(Drop)]
 pub struct FuseSeries<S> {
     fuse: Fuse<S>,
@@ -38,28 +38,16 @@ impl<S: MemberStore> FuseSeries<S> {
     {
         self.fuse.below()
     }
-
-    // Takes the next setting out of the series.
-    fn next_setting(&mut self) -> Option<usize>
-        ensures value { result ≡ next_setting self.old.settings.items }
-        ensures rest { self.new.settings.items ≡ later_settings self.old.settings.items }
-        ensures fuse { self.new.fuse ≡ self.old.fuse }
-    {
-        match self.settings.pop() {
-            Some(left) => left,
-            None => None,
-        }
-    }
 }
 
 impl<S: MemberStore> MemberStore for FuseSeries<S> {
-    ghost meaning = { λ f. fused f.fuse.blown (S.MemberStore.meaning f.fuse.below) };
+    ghost meaning = { λ f. ⟦<Fuse<S> as MemberStore>⟧.meaning f.fuse };
 
-    ghost reading = { λ f m b old r new g. (g.settings ≡ f.settings) × Passes (off_at m b) r (Reads (S.MemberStore.meaning f.fuse.below) m b old r new (S.MemberStore.meaning g.fuse.below) × S.MemberStore.reading f.fuse.below m b old r new g.fuse.below) f.fuse.left f.fuse.blown f.fuse.below g.fuse.left g.fuse.blown g.fuse.below };
+    ghost reading = { λ f m b old r new g. (g.settings ≡ f.settings) × ⟦<Fuse<S> as MemberStore>⟧.reading f.fuse m b old r new g.fuse };
 
-    ghost storing = { λ f m b x r g. (g.settings ≡ f.settings) × Counts (checks (fused f.fuse.blown (S.MemberStore.meaning f.fuse.below)) m b (length x)) (off_at m b) r (Stores (S.MemberStore.meaning f.fuse.below) m b x r (S.MemberStore.meaning g.fuse.below) × S.MemberStore.storing f.fuse.below m b x r g.fuse.below) f.fuse.left f.fuse.blown f.fuse.below g.fuse.left g.fuse.blown g.fuse.below };
+    ghost storing = { λ f m b x r g. (g.settings ≡ f.settings) × ⟦<Fuse<S> as MemberStore>⟧.storing f.fuse m b x r g.fuse };
 
-    ghost barring = { λ f r g. (g.settings ≡ f.settings) × Counts (barrier_checks (fused f.fuse.blown (S.MemberStore.meaning f.fuse.below))) off_at_barrier r (Bars (S.MemberStore.meaning f.fuse.below) r (S.MemberStore.meaning g.fuse.below) × S.MemberStore.barring f.fuse.below r g.fuse.below) f.fuse.left f.fuse.blown f.fuse.below g.fuse.left g.fuse.blown g.fuse.below };
+    ghost barring = { λ f r g. (g.settings ≡ f.settings) × ⟦<Fuse<S> as MemberStore>⟧.barring f.fuse r g.fuse };
 
     ghost powering = { λ f g. (g.fuse.left ≡ next_setting f.settings.items) × (g.settings.items ≡ later_settings f.settings.items) × (g.fuse.blown ≡ false) × PoweredOn (S.MemberStore.meaning f.fuse.below) (S.MemberStore.meaning g.fuse.below) × S.MemberStore.powering f.fuse.below g.fuse.below };
 
@@ -81,12 +69,12 @@ impl<S: MemberStore> MemberStore for FuseSeries<S> {
         self.fuse.blocks()
     }
 
-    fn read(&mut self, member: usize, block: usize, into: &mut [u8]) -> Result<(), Refusal> {
-        self.fuse.read(member, block, into)
+    fn read(&mut self, at: Address, into: &mut [u8]) -> Result<(), Refusal> {
+        self.fuse.read(at, into)
     }
 
-    fn store(&mut self, member: usize, block: usize, bytes: &[u8]) -> Result<(), Refusal> {
-        self.fuse.store(member, block, bytes)
+    fn store(&mut self, at: Address, bytes: &[u8]) -> Result<(), Refusal> {
+        self.fuse.store(at, bytes)
     }
 
     fn barrier(&mut self) -> Result<(), Refusal> {
@@ -94,7 +82,7 @@ impl<S: MemberStore> MemberStore for FuseSeries<S> {
     }
 
     fn power_on(&mut self) {
-        let left = self.next_setting();
+        let left = self.settings.pop().flatten();
         self.fuse.power_on();
         self.fuse.set(left);
     }

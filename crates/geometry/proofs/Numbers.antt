@@ -5,7 +5,7 @@ use Rattle.std.proofs.lemmas.Nat.{div-mul-add, mod-mul-add, div_below, mod_below
 use Rattle.geometry.specs.Layouts.{Arrangement, Lawful, position_at}
 use Rattle.geometry.specs.Places.{stripe_of, position_of, block_number, data_blocks, located, numbered, data_address, content_at}
 use Rattle.geometry.specs.declared.place.Location.{Location}
-use Rattle.geometry.specs.declared.place.Address.{Address}
+use Rattle.block_address.specs.declared.Address.{Address}
 use Rattle.geometry.specs.declared.place.Content.TheVariants.{Data}
 
 module _ (m n : ℕ) (h : 3 ≤ m) where

@@ -2,7 +2,7 @@
 use Rattle.std.specs.Prelude.{◌≡◌, ℕ, ◌+◌, ◌-◌, ◌*◌, ◌/◌, ◌%◌, cond, IfSome, Some, None, Option, ◌==◌, nat_lt}
 use Rattle.geometry.specs.Layouts.{Arrangement}
 use Rattle.geometry.specs.declared.place.Location.{Location}
-use Rattle.geometry.specs.declared.place.Address.{Address}
+use Rattle.block_address.specs.declared.Address.{Address}
 use Rattle.geometry.specs.declared.place.Content.{Content}
 use Rattle.geometry.specs.declared.place.Content.TheVariants.{Data, Parity}
 

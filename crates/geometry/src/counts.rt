@@ -12,10 +12,7 @@ impl MemberCount {
         ensures allowed { is_some result ≡ members_allowed count }
         ensures value { MatchOption result (members_allowed count ≡ false) (λ c. counted c ≡ count) }
     {
-        if count < LEAST_MEMBERS {
-            return None;
-        }
-        if count > MOST_MEMBERS {
+        if !(LEAST_MEMBERS..=MOST_MEMBERS).contains(&count) {
             return None;
         }
         Some(MemberCount { count })
@@ -44,13 +41,8 @@ impl Shape {
         ensures value { MatchResult result (λ a. (members_of a ≡ members) × (blocks_of a ≡ blocks)) (λ e. (e.members ≡ members) × (e.blocks ≡ blocks)) }
     {
         let refused = OutOfLimits { members, blocks };
-        let Some(count) = MemberCount::new(members) else {
-            return Err(refused);
-        };
-        if blocks < LEAST_BLOCKS {
-            return Err(refused);
-        }
-        if blocks > MOST_BLOCKS {
+        let count = MemberCount::new(members).ok_or(refused)?;
+        if !(LEAST_BLOCKS..=MOST_BLOCKS).contains(&blocks) {
             return Err(refused);
         }
         Ok(Shape {

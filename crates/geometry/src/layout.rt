@@ -60,7 +60,7 @@ fn falling_parity(members: MemberCount, stripe: usize) -> usize
 fn restarted_member(members: MemberCount, parity: usize, position: usize) -> Option<usize>
     ensures { result ≡ member_at (counted members) (record { parity = parity; member = restarted parity; position = restarted_back parity }) position }
 {
-    if position >= members.count - 1 {
+    if position >= members.positions() {
         return None;
     }
     if position < parity {
@@ -72,10 +72,7 @@ fn restarted_member(members: MemberCount, parity: usize, position: usize) -> Opt
 fn restarted_position(members: MemberCount, parity: usize, member: usize) -> Option<usize>
     ensures { result ≡ position_at (counted members) (record { parity = parity; member = restarted parity; position = restarted_back parity }) member }
 {
-    if member >= members.count {
-        return None;
-    }
-    if member == parity {
+    if member >= members.count || member == parity {
         return None;
     }
     if member < parity {
@@ -84,6 +81,7 @@ fn restarted_position(members: MemberCount, parity: usize, member: usize) -> Opt
     Some(member - 1)
 }
 
+// Kept: the two asymmetric layouts differ in one call of each method; a trait of rotations with one impl over it is longer.
 impl Layout for RightAsymmetric {
     ghost arrangement = { right_asymmetric };
 
@@ -130,7 +128,7 @@ impl Layout for LeftSymmetric {
     }
 
     fn member_of(&self, members: MemberCount, stripe: usize, position: usize) -> Option<usize> {
-        if position >= members.count - 1 {
+        if position >= members.positions() {
             return None;
         }
         Some((falling_parity(members, stripe) + 1 + position) % members.count)
@@ -138,10 +136,7 @@ impl Layout for LeftSymmetric {
 
     fn position_on(&self, members: MemberCount, stripe: usize, member: usize) -> Option<usize> {
         let parity = falling_parity(members, stripe);
-        if member >= members.count {
-            return None;
-        }
-        if member == parity {
+        if member >= members.count || member == parity {
             return None;
         }
         Some((member + (members.count - 1 - parity)) % members.count)

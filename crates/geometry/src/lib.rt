@@ -3,6 +3,7 @@
 //! This is the only crate that knows how tall a strip is and on which member a block lies.
 #![tactic(auto)]
 
+pub mod array_geometry;
 mod convert;
 mod counts;
 pub mod layout;

@@ -1,7 +1,7 @@
 -- The number, the layer and the place of a log's refusal, and which refusal says that power went in a device call.
 use Rattle.std.specs.Prelude.{ℕ, None, Option}
 use Rattle.member_store.specs.Refusals as store
-use Rattle.member_store.specs.declared.refusal.Place.{Place}
+use Rattle.block_address.specs.declared.Address.{Address}
 use Rattle.intent_log.specs.declared.refusal.Layer.{Layer}
 use Rattle.intent_log.specs.declared.refusal.Layer.TheVariants.{LogStore, Log}
 use Rattle.intent_log.specs.declared.refusal.LogRefusal.{LogRefusal}
@@ -26,7 +26,7 @@ layer Spent = Log
 layer (DoesNotFit n) = Log
 
 -- the place of the device call, where there was one
-abbrev pub place : LogRefusal → Option Place
+abbrev pub place : LogRefusal → Option Address
 place (Store e) = store.place e
 place Off = None
 place (TooSmall m b) = None

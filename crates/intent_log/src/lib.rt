@@ -9,7 +9,7 @@ ghost use Rattle.intent_log.specs.Calls.{Answers, FindsNext, Marks, Freshens, Cl
 
 pub mod refusal;
 
-use member_store::refusal::Place;
+use block_address::Address;
 use refusal::{Layer, LogRefusal};
 use stripe_set::is_rising;
 
@@ -48,7 +48,7 @@ impl LogRefusal {
     }
 
     /// Member and block of the device call in which power was missing, if there was one.
-    pub fn place(&self) -> Option<Place>
+    pub fn place(&self) -> Option<Address>
         ensures { result ≡ place_of self.now }
     {
         match self {

@@ -3,3 +3,4 @@ pub mod Decoding
 pub mod Written
 pub mod RoundTrip
 pub mod Examples
+pub mod Text

@@ -2,6 +2,7 @@
 ghost use Rattle.std.specs.Prelude.{◌≡◌, ◌≤◌, length};
 
 /// The shortest form of a number, one to five bytes.
+// Kept: an array and a length, since there is no heap here, and the kit's `ArrayVec` is not `Copy`, as this is.
 #[derive(Clone, Copy)]
 pub struct Encoded {
     pub(super) bytes: [u8; 5],

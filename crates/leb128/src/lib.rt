@@ -1,7 +1,8 @@
 //! Numbers in groups of seven bits (unsigned LEB128), in shortest form, up to 4,294,967,295.
 #![tactic(auto)]
 
-ghost use Rattle.std.specs.Prelude.{◌≡◌, ◌≤◌, length, IfOk};
+ghost use Rattle.std.specs.Prelude.{◌≡◌, ◌≤◌, length, cond, nat_lt, Ok, Err, IfOk};
+ghost use Rattle.leb128.specs.declared.decoded.DecodeError.TheVariants.{Overflow};
 ghost use Rattle.leb128.specs.Encoding.{encoding};
 ghost use Rattle.leb128.specs.Decoding.{decoding};
 ghost use Rattle.leb128.specs.Written.{written};
@@ -24,8 +25,6 @@ const BITS: u32 = 7;
 
 const LAST: usize = 4;
 
-const LARGEST: u64 = 0xffff_ffff;
-
 impl Encoded {
     /// The bytes of the number.
     pub fn as_slice(&self) -> &[u8]
@@ -43,6 +42,7 @@ pub fn encode(n: u32) -> Encoded
     let mut bytes = [0u8; 5];
     let mut rest = n;
     let mut i = 0;
+    // Kept: a `for` over the places is no plainer: the number ends the loop, `len` is where, and each way out writes a byte.
     while rest >= 0x80 {
         bytes[i] = (rest & 0x7f) as u8 | MORE;
         rest >>= BITS;
@@ -50,6 +50,13 @@ pub fn encode(n: u32) -> Encoded
     }
     bytes[i] = rest as u8;
     Encoded { bytes, len: i + 1 }
+}
+
+// The number, if it is not above 4,294,967,295.
+fn within_limit(n: u64) -> Result<u32, DecodeError>
+    ensures { result ≡ cond (nat_lt n 4294967296) (Ok n) (Err Overflow) }
+{
+    u32::try_from(n).map_err(|_| DecodeError::Overflow)
 }
 
 /// The number that the bytes begin with. The bytes that it took are its shortest form.
@@ -67,11 +74,9 @@ pub fn decode(bytes: &[u8]) -> Result<Decoded, DecodeError>
             if i > 0 && group == 0 {
                 return Err(DecodeError::LongerForm);
             }
-            if n > LARGEST {
-                return Err(DecodeError::Overflow);
-            }
+            let value = within_limit(n)?;
             return Ok(Decoded {
-                value: n as u32,
+                value,
                 taken: i + 1,
             });
         }

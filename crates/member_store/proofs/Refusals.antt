@@ -1,10 +1,7 @@
 -- The cases of a refused call.
-use Rattle.std.proofs.Common.{◌≡◌, ℕ, ◌⊎◌, Some, None, Option, refl, inl, inr, arith}
+use Rattle.std.proofs.Common.{◌≡◌, ◌⊎◌, Some, None, Option, refl, inl, inr}
 use Rattle.member_store.specs.Calls.{Refused}
 use Rattle.member_store.specs.declared.refusal.Refusal.{Refusal}
-
-pub some≢none : {e : Refusal} → Some e ≡ None → ⊥
-some≢none p = let z : ◌≡◌ {A = ℕ} 0 1 = cc in omega arith
 
 -- The checks passed and power went, or they did not and nothing changed.
 pub refused_cases : (c : Option Refusal) (e : Refusal) (same went : Type 0) → Refused c e same went → ((c ≡ None) × went) ⊎ ((c ≡ Some e) × same)

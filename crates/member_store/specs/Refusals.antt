@@ -1,6 +1,6 @@
 -- The number and the place of a refusal, and which refusal says that power is missing.
 use Rattle.std.specs.Prelude.{ℕ, Some, None, Option}
-use Rattle.member_store.specs.declared.refusal.Place.{Place}
+use Rattle.block_address.specs.declared.Address.{Address}
 use Rattle.member_store.specs.declared.refusal.Refusal.{Refusal}
 use Rattle.member_store.specs.declared.refusal.Refusal.TheVariants.{PowerOff, NoMember, NoBlock, WrongLength}
 
@@ -11,7 +11,7 @@ number (NoBlock b) = 7
 number (WrongLength n) = 8
 
 -- The block that the device call without power was for; a barrier has none, and neither has another refusal.
-abbrev pub place : Refusal → Option Place
+abbrev pub place : Refusal → Option Address
 place (PowerOff p) = p
 place (NoMember m) = None
 place (NoBlock b) = None

@@ -1,11 +1,8 @@
--- What a place and a refusal say to a user.
+-- What a refusal says to a user.
 use Rattle.std.specs.Prelude.{ℕ, List, ◌++◌, Some, None, codes, decimal}
-use Rattle.member_store.specs.declared.refusal.Place.{Place}
+use Rattle.block_address.specs.Text.{place_text}
 use Rattle.member_store.specs.declared.refusal.Refusal.{Refusal}
 use Rattle.member_store.specs.declared.refusal.Refusal.TheVariants.{PowerOff, NoMember, NoBlock, WrongLength}
-
-abbrev pub place_text : Place → List ℕ
-place_text p = codes "block " ++ (decimal p.block ++ (codes " of member " ++ decimal p.member))
 
 abbrev pub text : Refusal → List ℕ
 text (PowerOff (Some p)) = codes "refused (1): no power at " ++ place_text p

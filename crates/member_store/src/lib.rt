@@ -1,16 +1,17 @@
 // Member stores: the interface, what its calls mean, and why they are refused.
 #![tactic(auto)]
 
-ghost use Rattle.std.specs.Prelude.{◌≡◌, ℕ, ◌≤◌, List, length, Result as Answer};
+ghost use Rattle.std.specs.Prelude.{◌≡◌, ℕ, ◌≤◌, List, length, Some, None, MatchResult, Result as Answer};
 ghost use Rattle.member_store.specs.declared.refusal.Refusal.{Refusal as Cause};
 ghost use Rattle.member_store.specs.Meaning.{Meaning, current, Version, HasBlock};
 ghost use Rattle.member_store.specs.Refusals.{number as number_of, place as place_of};
-ghost use Rattle.member_store.specs.Calls.{checked, Reads, Stores, Bars, PoweredOn};
+ghost use Rattle.member_store.specs.Calls.{checks, Reads, Stores, Bars, PoweredOn};
 
 pub mod refusal;
 pub mod text;
 
-use refusal::{Place, Refusal};
+use block_address::Address;
+use refusal::Refusal;
 
 /// The bytes of a block.
 pub const BLOCK_BYTES: usize = 512;
@@ -22,49 +23,20 @@ impl Refusal {
     {
         match self {
             Refusal::PowerOff(_) => 1,
-            Refusal::NoMember(_) => 7,
-            Refusal::NoBlock(_) => 7,
+            Refusal::NoMember(_) | Refusal::NoBlock(_) => 7,
             Refusal::WrongLength(_) => 8,
         }
     }
 
     /// Member and block of the device call in which power was missing; a barrier has none.
-    pub fn place(&self) -> Option<Place>
+    pub fn place(&self) -> Option<Address>
         ensures { result ≡ place_of self.now }
     {
         match self {
             Refusal::PowerOff(place) => *place,
-            Refusal::NoMember(_) => None,
-            Refusal::NoBlock(_) => None,
-            Refusal::WrongLength(_) => None,
+            Refusal::NoMember(_) | Refusal::NoBlock(_) | Refusal::WrongLength(_) => None,
         }
     }
-}
-
-/// The checks that every store makes before a read or a store of `len` bytes: power, member, block, length.
-pub fn first_refusal(
-    on: bool,
-    members: usize,
-    blocks: usize,
-    member: usize,
-    block: usize,
-    len: usize,
-) -> Option<Refusal>
-    ensures { result ≡ checked on members blocks member block len }
-{
-    if !on {
-        return Some(Refusal::PowerOff(Some(Place { member, block })));
-    }
-    if member >= members {
-        return Some(Refusal::NoMember(member));
-    }
-    if block >= blocks {
-        return Some(Refusal::NoBlock(block));
-    }
-    if len != BLOCK_BYTES {
-        return Some(Refusal::WrongLength(len));
-    }
-    None
 }
 
 /// The disks of a box: members with the same number of blocks, which keep several versions of a block until a barrier.
@@ -92,15 +64,34 @@ pub trait MemberStore {
     fn blocks(&self) -> usize
         ensures { result ≡ (meaning self.now).blocks };
 
+    /// The checks of a read or a store of `len` bytes at a block, in their order: power, member, block, length.
+    fn check_access(&self, at: Address, len: usize) -> Result<(), Refusal>
+        ensures { MatchResult result (λ _. checks (meaning self.now) at.member at.block len ≡ None) (λ e. checks (meaning self.now) at.member at.block len ≡ Some e) }
+    {
+        if !self.powered() {
+            return Err(Refusal::PowerOff(Some(at)));
+        }
+        if at.member >= self.members() {
+            return Err(Refusal::NoMember(at.member));
+        }
+        if at.block >= self.blocks() {
+            return Err(Refusal::NoBlock(at.block));
+        }
+        if len != BLOCK_BYTES {
+            return Err(Refusal::WrongLength(len));
+        }
+        Ok(())
+    }
+
     /// Copies the current bytes of a block into `into`, which a refusal leaves as it was.
-    fn read(&mut self, member: usize, block: usize, into: &mut [u8]) -> Result<(), Refusal>
-        ensures means { Reads (meaning self.old) member block into.old result into.new (meaning self.new) }
-        ensures own { reading self.old member block into.old result into.new self.new };
+    fn read(&mut self, at: Address, into: &mut [u8]) -> Result<(), Refusal>
+        ensures means { Reads (meaning self.old) at.member at.block into.old result into.new (meaning self.new) }
+        ensures own { reading self.old at.member at.block into.old result into.new self.new };
 
     /// Makes `bytes` the current version of a block; until a barrier former versions may stand after a cut.
-    fn store(&mut self, member: usize, block: usize, bytes: &[u8]) -> Result<(), Refusal>
-        ensures means { Stores (meaning self.old) member block bytes.now result (meaning self.new) }
-        ensures own { storing self.old member block bytes.now result self.new };
+    fn store(&mut self, at: Address, bytes: &[u8]) -> Result<(), Refusal>
+        ensures means { Stores (meaning self.old) at.member at.block bytes.now result (meaning self.new) }
+        ensures own { storing self.old at.member at.block bytes.now result self.new };
 
     /// Leaves each block its current version only.
     fn barrier(&mut self) -> Result<(), Refusal>

@@ -1,17 +1,11 @@
 // Why a member store refuses a call.
-
-/// A block of a member, as a device call names it; both are numbered from 0.
-#[derive(Clone, Copy, PartialEq, Eq, Debug)]
-pub struct Place {
-    pub member: usize,
-    pub block: usize,
-}
+use block_address::Address;
 
 /// Why a read, a store or a barrier was refused.
 #[derive(Clone, Copy, PartialEq, Eq, Debug)]
 pub enum Refusal {
     /// Power is off, or went in the call: the place of the device call, none for a barrier.
-    PowerOff(Option<Place>),
+    PowerOff(Option<Address>),
     /// There is no member of this number.
     NoMember(usize),
     /// There is no block of this number.

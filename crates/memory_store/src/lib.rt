@@ -11,8 +11,9 @@ ghost use Rattle.memory_store.specs.Rooms.{within};
 
 pub mod memory;
 
+use block_address::Address;
 use member_store::refusal::Refusal;
-use member_store::{BLOCK_BYTES, MemberStore, first_refusal};
+use member_store::{BLOCK_BYTES, MemberStore};
 use memory::{BadCounts, MemoryStore};
 
 // The number of a refused making.
@@ -31,10 +32,7 @@ impl BadCounts {
 fn fits(members: usize, blocks: usize, len: usize) -> bool
     ensures { Tells result (Fits members blocks len) }
 {
-    if members == 0 || blocks == 0 {
-        return false;
-    }
-    members <= len / BLOCK_BYTES / blocks
+    members > 0 && blocks > 0 && members <= len / BLOCK_BYTES / blocks
 }
 
 impl MemoryStore {
@@ -60,44 +58,40 @@ impl MemoryStore {
     pub fn into_bytes(self) -> Vec<u8>
         ensures { result ≡ self.bytes }
     {
-        let MemoryStore {
-            members: _,
-            blocks: _,
-            bytes,
-        } = self;
+        let MemoryStore { bytes, .. } = self;
         bytes
     }
 
     /// The bytes of a block, to look at; none where there is no such block.
-    pub fn block_bytes(&self, member: usize, block: usize) -> Option<&[u8]>
-        ensures { MatchOption result (HasBlock (memory_means self.now) member block → ⊥) (λ x. HasBlock (memory_means self.now) member block × (x.now ≡ current (memory_means self.now) member block) × (length x.now ≡ 512)) }
+    pub fn block_bytes(&self, at: Address) -> Option<&[u8]>
+        ensures { MatchOption result (HasBlock (memory_means self.now) at.member at.block → ⊥) (λ x. HasBlock (memory_means self.now) at.member at.block × (x.now ≡ current (memory_means self.now) at.member at.block) × (length x.now ≡ 512)) }
     {
-        if member >= self.members || block >= self.blocks {
+        if at.member >= self.members || at.block >= self.blocks {
             return None;
         }
-        let begin = self.offset(member, block);
+        let begin = self.offset(at);
         Some(&self.bytes[begin..begin + BLOCK_BYTES])
     }
 
     // Where a block begins.
-    fn offset(&self, member: usize, block: usize) -> usize
-        requires member { member < self.now.members }
-        requires block { block < self.now.blocks }
-        ensures value { result ≡ offset_of self.now.blocks member block }
+    fn offset(&self, at: Address) -> usize
+        requires member { at.member < self.now.members }
+        requires block { at.block < self.now.blocks }
+        ensures value { result ≡ offset_of self.now.blocks at.member at.block }
         ensures room { result + 512 ≤ vec_len self.now.bytes }
     {
-        (member * self.blocks + block) * BLOCK_BYTES
+        (at.member * self.blocks + at.block) * BLOCK_BYTES
     }
 
     // Overwrites a block.
-    fn put(&mut self, member: usize, block: usize, bytes: &[u8])
-        requires member { member < self.old.members }
-        requires block { block < self.old.blocks }
+    fn put(&mut self, at: Address, bytes: &[u8])
+        requires member { at.member < self.old.members }
+        requires block { at.block < self.old.blocks }
         requires whole { length bytes.now ≡ 512 }
-        ensures stored { Stored (memory_means self.old) member block bytes.now (memory_means self.new) }
-        ensures row { self.new.bytes.items ≡ with_block self.old.bytes.items self.old.blocks member block bytes.now }
+        ensures stored { Stored (memory_means self.old) at.member at.block bytes.now (memory_means self.new) }
+        ensures row { self.new.bytes.items ≡ with_block self.old.bytes.items self.old.blocks at.member at.block bytes.now }
     {
-        let start = self.offset(member, block);
+        let start = self.offset(at);
         self.bytes[start..start + BLOCK_BYTES].copy_from_slice(bytes);
     }
 }
@@ -134,27 +128,16 @@ impl MemberStore for MemoryStore {
         self.blocks
     }
 
-    fn read(&mut self, member: usize, block: usize, into: &mut [u8]) -> Result<(), Refusal> {
-        if let Some(e) = first_refusal(true, self.members, self.blocks, member, block, into.len()) {
-            return Err(e);
-        }
-        let at = self.offset(member, block);
-        into.copy_from_slice(&self.bytes[at..at + BLOCK_BYTES]);
+    fn read(&mut self, at: Address, into: &mut [u8]) -> Result<(), Refusal> {
+        self.check_access(at, into.len())?;
+        let start = self.offset(at);
+        into.copy_from_slice(&self.bytes[start..start + BLOCK_BYTES]);
         Ok(())
     }
 
-    fn store(&mut self, member: usize, block: usize, bytes: &[u8]) -> Result<(), Refusal> {
-        if let Some(e) = first_refusal(
-            true,
-            self.members,
-            self.blocks,
-            member,
-            block,
-            bytes.len(),
-        ) {
-            return Err(e);
-        }
-        self.put(member, block, bytes);
+    fn store(&mut self, at: Address, bytes: &[u8]) -> Result<(), Refusal> {
+        self.check_access(at, bytes.len())?;
+        self.put(at, bytes);
         Ok(())
     }
 

@@ -1,3 +1,4 @@
 pub mod Xor
 pub mod Refusals
 pub mod Laws
+pub mod Text

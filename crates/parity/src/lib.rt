@@ -1,7 +1,7 @@
 //! Parity of blocks, and one block of a stripe out of all the others.
 #![tactic(auto)]
 
-ghost use Rattle.std.specs.Prelude.{◌≡◌, ℕ, ◌+◌, ◌*◌, ◌<◌, ◌≤◌, length, replicate};
+ghost use Rattle.std.specs.Prelude.{◌≡◌, ℕ, ◌+◌, ◌*◌, ◌<◌, ◌≤◌, length, replicate, Some, None, MatchResult};
 ghost use Rattle.std.specs.Simd.Lanes.{fold_l, chunk};
 ghost use Rattle.parity.specs.Xor.{xored, parity_of};
 ghost use Rattle.parity.specs.Refusals.{checks, Gives, Regains, FlatGives};
@@ -32,7 +32,7 @@ fn column(blocks: &[[u8; 512]], at: usize) -> u8x64
 {
     let mut sum = u8x64::splat(0);
     for block in blocks {
-        sum = sum ^ u8x64::from_slice(&block[at..]);
+        sum ^= u8x64::from_slice(&block[at..]);
     }
     sum
 }
@@ -42,25 +42,22 @@ fn sum_into(blocks: &[[u8; 512]], into: &mut [u8])
     requires { length into.old ≡ 512 }
     ensures { into.new ≡ parity_of blocks.now }
 {
-    for c in 0..8 {
-        let at = LANES * c;
+    for at in (0..BLOCK_BYTES).step_by(LANES) {
         column(blocks, at).copy_to_slice(&mut into[at..]);
     }
 }
 
-fn first_refusal(count: usize, len: usize) -> Option<Refusal>
-    ensures { result ≡ checks count len }
+// There are 2 to 7 blocks, and the buffer has the length of one.
+fn check(count: usize, len: usize) -> Result<(), Refusal>
+    ensures { MatchResult result (λ _. checks count len ≡ None) (λ e. checks count len ≡ Some e) }
 {
-    if count < LEAST_BLOCKS {
-        return Some(Refusal::BlockCount(count));
-    }
-    if count > MOST_BLOCKS {
-        return Some(Refusal::BlockCount(count));
+    if !(LEAST_BLOCKS..=MOST_BLOCKS).contains(&count) {
+        return Err(Refusal::BlockCount(count));
     }
     if len != BLOCK_BYTES {
-        return Some(Refusal::WrongLength(len));
+        return Err(Refusal::WrongLength(len));
     }
-    None
+    Ok(())
 }
 
 // Checks, and then the exclusive or of the blocks.
@@ -68,9 +65,7 @@ fn checked_sum(blocks: &[[u8; 512]], into: &mut [u8]) -> Result<(), Refusal>
     ensures gives { Gives blocks.now into.old result into.new }
     ensures regains { Regains blocks.now result into.new }
 {
-    if let Some(e) = first_refusal(blocks.len(), into.len()) {
-        return Err(e);
-    }
+    check(blocks.len(), into.len())?;
     sum_into(blocks, into);
     Ok(())
 }
@@ -98,16 +93,11 @@ pub fn dustercyan_parity(blocks: &[u8], into: &mut [u8]) -> bool
     ensures { FlatGives blocks.now into.old result into.new }
 {
     let (whole, rest) = blocks.as_chunks::<512>();
-    if rest.len() != 0 {
-        return false;
-    }
-    parity(whole, into).is_ok()
+    rest.is_empty() && parity(whole, into).is_ok()
 }
 
 /// The laws of parity, proved: parity of zeros is zeros, each byte is the exclusive or of the bytes at its offset, and
 /// any one block of a stripe with right parity is the exclusive or of the others.
-pub fn laws_hold() -> u8
+pub fn laws_hold()
     ensures { Laws }
-{
-    0
-}
+{}

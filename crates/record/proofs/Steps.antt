@@ -1,6 +1,7 @@
 -- Reading a record step by step.
-use Rattle.std.proofs.Common.{◌≡◌, ℕ, zero, suc, ◌+◌, ◌-◌, ◌<◌, ◌≤◌, true, false, ◌&&◌, ltb, leb, List, ◌∷◌, length, take, drop, Some, None, Ok, Err, Option, Result, sym, refl, ap, ◌∙◌, ⊎_elim, arith}
-use Rattle.std.proofs.lemmas.List.{take_rest, length-take-le}
+use Rattle.std.proofs.Common.{◌≡◌, ℕ, zero, suc, ◌+◌, ◌<◌, ◌≤◌, true, false, ◌&&◌, ltb, leb, List, ◌∷◌, length, take, drop, Some, None, Ok, Err, Option, Result, sym, refl, ap, ◌∙◌, ⊎_elim, arith}
+use Rattle.std.specs.Result.{result_ok}
+use Rattle.std.proofs.lemmas.List.{length-take-le}
 use Rattle.std.proofs.lemmas.Bool.{and_parts, and_from, or_left, or_right, le-leb, lt-ltb, eq-eqb, leb-true, ltb-true, cond-true, cond-false, cases_Bool, cases_lt}
 use Rattle.leb128.specs.declared.decoded.Decoded.{Decoded}
 use Rattle.leb128.specs.declared.decoded.DecodeError.{DecodeError}
@@ -18,6 +19,22 @@ some≢none e = let z : ◌≡◌ {A = ℕ} 0 1 = cc in omega arith
 
 pub some_same : {X : Type 0} {x y : X} → Some x ≡ Some y → x ≡ y
 some_same e = cc
+
+a_number : (z : Result Decoded DecodeError) (d : Decoded) → Some d ≡ result_ok z → z ≡ Ok d
+a_number (Err r) d e = absurd (some≢none e)
+a_number (Ok x) d e = cc
+
+-- the number at a place
+pub number_is : (bs : List ℕ) (at : ℕ) (d : Decoded) → Some d ≡ result_ok (decoding (drop at bs)) → decoding (drop at bs) ≡ Ok d
+number_is bs at d e = a_number (decoding (drop at bs)) d e
+
+no_number : (z : Result Decoded DecodeError) (f : Decoded → Option Contents) → None ≡ result_ok z → then_number z f ≡ None
+no_number (Err r) f e = refl
+no_number (Ok x) f e = absurd (some≢none (sym e))
+
+pub no_stripe : (least from at : ℕ) (z : Result Decoded DecodeError) → None ≡ result_ok z → None ≡ above least from at z
+no_stripe least from at (Err r) e = refl
+no_stripe least from at (Ok x) e = absurd (some≢none (sym e))
 
 -- ---- the stripes that are read rise
 
@@ -50,9 +67,6 @@ read_rising (suc n) least from bs at y e =
 
 -- ---- the steps
 
-pub rest_is : (bs : List ℕ) (at : ℕ) (o : Result Decoded DecodeError) → o ≡ decoding (take (length bs - at) (drop at bs)) → decoding (drop at bs) ≡ o
-rest_is bs at o e = ap decoding (sym (take_rest bs at)) ∙ sym e
-
 module _ (bs : List ℕ) where
   abbrev version_then : Result Decoded DecodeError → Option Contents
   version_then z = then_number z (λ v. then_number (decoding (drop (4 + v.taken) bs)) (counted v.value bs (4 + v.taken)))
@@ -66,15 +80,15 @@ module _ (bs : List ℕ) where
     unfolding recorded
     first = cond-true (opens bs) _ None o
 
-    pub no_version : (r : DecodeError) → decoding (drop 4 bs) ≡ Err r → recorded bs ≡ None
-    no_version r e = first ∙ ap version_then e
+    pub no_version : None ≡ result_ok (decoding (drop 4 bs)) → recorded bs ≡ None
+    no_version e = first ∙ no_number (decoding (drop 4 bs)) _ e
 
     module _ (v : Decoded) (e : decoding (drop 4 bs) ≡ Ok v) where
       second : recorded bs ≡ then_number (decoding (drop (4 + v.taken) bs)) (counted v.value bs (4 + v.taken))
       second = first ∙ ap version_then e
 
-      pub no_count : (r : DecodeError) → decoding (drop (4 + v.taken) bs) ≡ Err r → recorded bs ≡ None
-      no_count r f = second ∙ ap (λ z. then_number z (counted v.value bs (4 + v.taken))) f
+      pub no_count : None ≡ result_ok (decoding (drop (4 + v.taken) bs)) → recorded bs ≡ None
+      no_count f = second ∙ no_number (decoding (drop (4 + v.taken) bs)) _ f
 
       module _ (n : Decoded) (f : decoding (drop (4 + v.taken) bs) ≡ Ok n) where
         third : recorded bs ≡ counted v.value bs (4 + v.taken) n
@@ -101,10 +115,8 @@ module _ (bs : List ℕ) where
             all_read h = fifth ∙ cond-true (zeros (drop end bs)) _ None h
 
 -- what a set of the stripes that were read holds
-pub set_holds : (o : Option (List ℕ)) (items : List ℕ) (n : ℕ) → o ≡ bounded (take (n - 0) items) → n ≤ 64 → length items ≡ 64 → rising 0 (take n items) ≡ true → o ≡ Some (take n items)
-set_holds o items n e h w r =
-    let z : n - 0 ≡ n = omega arith in
-    e ∙ ap (λ (k : ℕ). bounded (take k items)) z ∙ sym (within (take n items) (omega (arith, length-take-le n items (omega arith))) r)
+pub set_holds : (o : Option (List ℕ)) (items : List ℕ) (n : ℕ) → o ≡ bounded (take n items) → n ≤ 64 → length items ≡ 64 → rising 0 (take n items) ≡ true → o ≡ Some (take n items)
+set_holds o items n e h w r = e ∙ sym (within (take n items) (omega (arith, length-take-le n items (omega arith))) r)
 
 pub allowed_count : (v n : ℕ) → allowed v n ≡ true → n ≤ 64
 allowed_count v n e = leb-true n 64 (and_parts (leb n 64) _ (and_parts (ltb 0 v) _ e).1).0

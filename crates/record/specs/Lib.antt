@@ -4,3 +4,4 @@ pub mod Form
 pub mod Reading
 pub mod Spelling
 pub mod Examples
+pub mod Text

@@ -2,6 +2,7 @@
 #![tactic(auto)]
 
 ghost use Rattle.std.specs.Prelude.{◌≡◌, ◌+◌, ◌-◌, ◌<◌, ◌≤◌, true, length, take, drop, IfSome, Some, None, MatchOption};
+ghost use Rattle.std.specs.Result.{result_ok};
 ghost use Rattle.std.proofs.lemmas.List.Edits.{sets};
 ghost use Rattle.leb128.specs.Encoding.{encoding};
 ghost use Rattle.leb128.specs.Decoding.{decoding};
@@ -15,8 +16,10 @@ ghost use Rattle.record.specs.Spelling.{Spelt, SpeltAll};
 ghost use Rattle.record.specs.Examples.{WorkedExamples, example as sample};
 
 pub mod form;
+pub mod text;
 
 use form::Record;
+use leb128::decoded::Decoded;
 use stripe_set::set::{MOST, StripeSet};
 use zero_bytes::all_zero;
 
@@ -93,7 +96,7 @@ fn put(buf: &mut [u8], at: usize, n: u32) -> usize
     let number = leb128::encode(n);
     let digits = number.as_slice();
     let end = at + digits.len();
-    (&mut buf[at..end]).copy_from_slice(digits);
+    buf[at..end].copy_from_slice(digits);
     end
 }
 
@@ -102,8 +105,8 @@ fn write(buf: &mut [u8], version: u32, stripes: &[u32])
     requires { (length buf.old ≡ 512) × (length stripes.now ≤ 64) × (increasing 0 stripes.now ≡ true) }
     ensures { buf.new ≡ block (record { version = version; stripes = stripes.now }) }
 {
-    buf.copy_from_slice(&[0; BLOCK]);
-    (&mut buf[0..4]).copy_from_slice(&OPENING);
+    buf.fill(0);
+    buf[..4].copy_from_slice(&OPENING);
     let mut at = put(buf, 4, version);
     at = put(buf, at, stripes.len() as u32);
     let mut before = 0;
@@ -118,10 +121,17 @@ fn is_opened(bytes: &[u8]) -> bool
     requires { length bytes.now ≡ 512 }
     ensures { result ≡ opens bytes.now }
 {
-    bytes[0] == OPENING[0]
-        && bytes[1] == OPENING[1]
-        && bytes[2] == OPENING[2]
-        && bytes[3] == OPENING[3]
+    bytes.starts_with(&OPENING)
+}
+
+// The number at a place, if there is one.
+fn number_at(bytes: &[u8], at: usize) -> Option<Decoded>
+    requires { at ≤ length bytes.now }
+    ensures value { result ≡ result_ok (decoding (drop at bytes.now)) }
+    ensures inside { IfSome result (λ d. at + d.taken ≤ length bytes.now) }
+    ensures spelt { IfSome result (λ d. Spelt bytes.now at (at + d.taken) d.value) }
+{
+    leb128::decode(&bytes[at..]).ok()
 }
 
 // The stripe at a place, at least `least` above `from`, and where it ends.
@@ -131,18 +141,12 @@ fn stripe_at(bytes: &[u8], at: usize, least: u32, from: u32) -> Option<(u32, usi
     ensures inside { IfSome result (λ x. x.1 ≤ length bytes.now) }
     ensures spelt { IfSome result (λ x. Spelt bytes.now at x.1 (x.0 - from)) }
 {
-    match leb128::decode(&bytes[at..]) {
-        Err(_) => None,
-        Ok(distance) => {
-            if distance.value < least {
-                return None;
-            }
-            if distance.value > u32::MAX - from {
-                return None;
-            }
-            Some((from + distance.value, at + distance.taken))
-        }
+    let distance = number_at(bytes, at)?;
+    if distance.value < least {
+        return None;
     }
+    let stripe = from.checked_add(distance.value)?;
+    Some((stripe, at + distance.taken))
 }
 
 // Reads n stripes into `out`, and answers where they end.
@@ -155,15 +159,9 @@ fn read_stripes(bytes: &[u8], at: usize, n: usize, out: &mut [u32]) -> Option<us
     let mut pos = at;
     let mut least = 0;
     let mut from = 0;
-    for i in 0..n {
-        match stripe_at(bytes, pos, least, from) {
-            None => return None,
-            Some((s, end)) => {
-                out[i] = s;
-                from = s;
-                pos = end;
-            }
-        }
+    for place in &mut out[..n] {
+        (from, pos) = stripe_at(bytes, pos, least, from)?;
+        *place = from;
         least = 1;
     }
     Some(pos)
@@ -178,27 +176,19 @@ fn read(bytes: &[u8]) -> Option<Record>
     if !is_opened(bytes) {
         return None;
     }
-    let Ok(version) = leb128::decode(&bytes[4..]) else {
-        return None;
-    };
+    let version = number_at(bytes, 4)?;
     let at = 4 + version.taken;
-    let Ok(count) = leb128::decode(&bytes[at..]) else {
-        return None;
-    };
+    let count = number_at(bytes, at)?;
     if !is_allowed(version.value, count.value) {
         return None;
     }
     let mut items = [0; MOST];
     let len = count.value as usize;
-    let Some(end) = read_stripes(bytes, at + count.taken, len, &mut items) else {
-        return None;
-    };
+    let end = read_stripes(bytes, at + count.taken, len, &mut items)?;
     if !all_zero(&bytes[end..]) {
         return None;
     }
-    let Some(stripes) = StripeSet::from_slice(&items[0..len]) else {
-        return None;
-    };
+    let stripes = StripeSet::from_slice(&items[..len])?;
     Some(Record {
         version: version.value,
         stripes,
@@ -210,8 +200,6 @@ pub fn worked_examples_hold() -> Option<Record>
     ensures examples { WorkedExamples }
     ensures value { contained result ≡ Some sample }
 {
-    match StripeSet::from_slice(&[3, 5, 300]) {
-        None => None,
-        Some(stripes) => Record::new(2, stripes),
-    }
+    let stripes = StripeSet::from_slice(&[3, 5, 300])?;
+    Record::new(2, stripes)
 }

@@ -1,15 +1,13 @@
 //! A fuse that is set from outside, while it lies below other stores or in an array.
 #![tactic(auto)]
 
-ghost use Rattle.std.specs.Prelude.{◌≡◌, false, length, None as Unset};
-ghost use Rattle.member_store.specs.Refusals.{off_at, off_at_barrier};
-ghost use Rattle.member_store.specs.Calls.{checks, barrier_checks, Reads, Stores, Bars, PoweredOn};
-ghost use Rattle.fuse.specs.Fused.{fused, Counts, Passes};
+ghost use Rattle.std.specs.Prelude.{◌≡◌, false, None as Unset};
 ghost use Rattle.remote_fuse.specs.Remote.{AtSome};
 ghost use Rattle.std.proofs.Common.{rules};
 
 pub mod switch;
 
+use block_address::Address;
 use fuse::Fuse;
 use member_store::MemberStore;
 use member_store::refusal::Refusal;
@@ -56,15 +54,15 @@ impl<S: MemberStore, W: Switch> RemoteFuse<S, W> {
 }
 
 impl<S: MemberStore, W: Switch> MemberStore for RemoteFuse<S, W> {
-    ghost meaning = { λ f. fused f.fuse.blown (S.MemberStore.meaning f.fuse.below) };
+    ghost meaning = { λ f. ⟦<Fuse<S> as MemberStore>⟧.meaning f.fuse };
 
-    ghost reading = { λ f m b old r new g. Passes (off_at m b) r (Reads (S.MemberStore.meaning f.fuse.below) m b old r new (S.MemberStore.meaning g.fuse.below) × S.MemberStore.reading f.fuse.below m b old r new g.fuse.below) f.fuse.left f.fuse.blown f.fuse.below g.fuse.left g.fuse.blown g.fuse.below };
+    ghost reading = { λ f m b old r new g. ⟦<Fuse<S> as MemberStore>⟧.reading f.fuse m b old r new g.fuse };
 
-    ghost storing = { λ f m b x r g. AtSome (λ left. Counts (checks (fused f.fuse.blown (S.MemberStore.meaning f.fuse.below)) m b (length x)) (off_at m b) r (Stores (S.MemberStore.meaning f.fuse.below) m b x r (S.MemberStore.meaning g.fuse.below) × S.MemberStore.storing f.fuse.below m b x r g.fuse.below) left f.fuse.blown f.fuse.below g.fuse.left g.fuse.blown g.fuse.below) };
+    ghost storing = { λ f m b x r g. AtSome (λ left. ⟦<Fuse<S> as MemberStore>⟧.storing (record { below = f.fuse.below; left = left; blown = f.fuse.blown }) m b x r g.fuse) };
 
-    ghost barring = { λ f r g. AtSome (λ left. Counts (barrier_checks (fused f.fuse.blown (S.MemberStore.meaning f.fuse.below))) off_at_barrier r (Bars (S.MemberStore.meaning f.fuse.below) r (S.MemberStore.meaning g.fuse.below) × S.MemberStore.barring f.fuse.below r g.fuse.below) left f.fuse.blown f.fuse.below g.fuse.left g.fuse.blown g.fuse.below) };
+    ghost barring = { λ f r g. AtSome (λ left. ⟦<Fuse<S> as MemberStore>⟧.barring (record { below = f.fuse.below; left = left; blown = f.fuse.blown }) r g.fuse) };
 
-    ghost powering = { λ f g. (g.fuse.left ≡ Unset) × (g.fuse.blown ≡ false) × PoweredOn (S.MemberStore.meaning f.fuse.below) (S.MemberStore.meaning g.fuse.below) × S.MemberStore.powering f.fuse.below g.fuse.below };
+    ghost powering = { λ f g. ⟦<Fuse<S> as MemberStore>⟧.powering f.fuse g.fuse };
 
     ghost counts = { Prim.search rules };
 
@@ -84,13 +82,13 @@ impl<S: MemberStore, W: Switch> MemberStore for RemoteFuse<S, W> {
         self.fuse.blocks()
     }
 
-    fn read(&mut self, member: usize, block: usize, into: &mut [u8]) -> Result<(), Refusal> {
-        self.fuse.read(member, block, into)
+    fn read(&mut self, at: Address, into: &mut [u8]) -> Result<(), Refusal> {
+        self.fuse.read(at, into)
     }
 
-    fn store(&mut self, member: usize, block: usize, bytes: &[u8]) -> Result<(), Refusal> {
+    fn store(&mut self, at: Address, bytes: &[u8]) -> Result<(), Refusal> {
         self.obey();
-        self.fuse.store(member, block, bytes)
+        self.fuse.store(at, bytes)
     }
 
     fn barrier(&mut self) -> Result<(), Refusal> {

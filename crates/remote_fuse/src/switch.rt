@@ -19,10 +19,9 @@ pub struct FuseSwitch {
 impl FuseSwitch {
     /// A switch that asks for nothing.
     pub fn new(heap: Global) -> Result<FuseSwitch, AllocError> {
-        match Rc::new(heap, Cell::new(None)) {
-            Ok(pending) => Ok(FuseSwitch { pending }),
-            Err(_) => Err(AllocError),
-        }
+        Ok(FuseSwitch {
+            pending: Rc::new(heap, Cell::new(None))?,
+        })
     }
 
     /// Asks the fuse to let `count` more stores and barriers act, and to lose power at the next one.
@@ -33,6 +32,6 @@ impl FuseSwitch {
 
 impl Switch for FuseSwitch {
     fn take(&self) -> Option<usize> {
-        self.pending.replace(None)
+        self.pending.take()
     }
 }

@@ -1,7 +1,7 @@
 //! The ring log: records in the first blocks of a member store, the highest version of which stands.
 #![tactic(auto)]
 
-ghost use Rattle.std.specs.Prelude.{◌≡◌, ◌+◌, ◌%◌, ◌<◌, ◌≤◌, true, false, ◌&&◌, [], length, Some, MatchResult};
+ghost use Rattle.std.specs.Prelude.{◌≡◌, ◌+◌, ◌%◌, ◌/◌, ◌<◌, ◌≤◌, true, false, ◌&&◌, [], length, Some, MatchResult};
 ghost use Rattle.stripe_set.specs.Stripes.{stripes as listing};
 ghost use Rattle.record.specs.Contents.{contents};
 ghost use Rattle.record.specs.Form.{block};
@@ -20,6 +20,7 @@ ghost use Rattle.std.proofs.Common.{rules};
 
 pub mod ring;
 
+use block_address::Address;
 use device_calls::store_and_bar;
 use intent_log::refusal::LogRefusal;
 use intent_log::{IntentLog, is_list};
@@ -62,6 +63,17 @@ pub fn slots_of(members: usize, blocks: usize) -> usize
         return 0;
     }
     slot_count(members, blocks)
+}
+
+// Where a slot lies: the slots go over the members, block by block.
+fn slot_address(slot: usize, members: usize) -> Address
+    requires { 1 ≤ members }
+    ensures { (result.member ≡ slot % members) × (result.block ≡ slot / members) }
+{
+    Address {
+        member: slot % members,
+        block: slot / members,
+    }
 }
 
 // The slot of a version.
@@ -205,7 +217,7 @@ impl<S: MemberStore> RingLog<S> {
         let members = self.store.members();
         let slot = slot_for(next.version(), slot_count(members, self.store.blocks()));
         let bytes = next.encode();
-        if let Err(e) = store_and_bar(&mut self.store, slot % members, slot / members, &bytes) {
+        if let Err(e) = store_and_bar(&mut self.store, slot_address(slot, members), &bytes) {
             return Err(LogRefusal::Store(e));
         }
         self.standing = Some(StandingRecord { slot, record: next });
@@ -222,7 +234,7 @@ impl<S: MemberStore> RingLog<S> {
             if i == keep {
                 continue;
             }
-            if let Err(e) = self.store.store(i % members, i / members, &[0; BLOCK]) {
+            if let Err(e) = self.store.store(slot_address(i, members), &[0; BLOCK]) {
                 return Err(e);
             }
         }
@@ -359,12 +371,7 @@ impl<S: MemberStore> IntentLog for RingLog<S> {
         if self.standing.is_none() {
             return Ok(());
         }
-        if let Err(e) = store_and_bar(
-            &mut self.store,
-            keep % members,
-            keep / members,
-            &[0; BLOCK],
-        ) {
+        if let Err(e) = store_and_bar(&mut self.store, slot_address(keep, members), &[0; BLOCK]) {
             return Err(LogRefusal::Store(e));
         }
         self.standing = None;
@@ -383,7 +390,7 @@ impl<S: MemberStore> IntentLog for RingLog<S> {
         let mut bytes = [0u8; BLOCK];
         let mut best = None;
         for i in 0..slots {
-            if let Err(e) = self.store.read(i % members, i / members, &mut bytes) {
+            if let Err(e) = self.store.read(slot_address(i, members), &mut bytes) {
                 return Err(LogRefusal::Store(e));
             }
             best = higher(best, found_in(i, &bytes));

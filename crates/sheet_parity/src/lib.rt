@@ -7,6 +7,7 @@ ghost use Rattle.member_store.specs.Meaning.{HasBlock, current};
 ghost use Rattle.memory_store.specs.Memory.{memory_means};
 ghost use Rattle.sheet_parity.specs.Right.{CancelOut, RightStripe, AllRight};
 
+use block_address::Address;
 use memory_store::memory::MemoryStore;
 use sheet_book::block_of;
 use sheet_book::book::BLOCK_BYTES;
@@ -32,7 +33,10 @@ fn cancel_out(
 fn block(memory: &MemoryStore, member: usize, stripe: usize) -> Option<[u8; BLOCK_BYTES]>
     ensures { MatchOption result (HasBlock (memory_means memory.now) member stripe → ⊥) (λ x. HasBlock (memory_means memory.now) member stripe × (x ≡ current (memory_means memory.now) member stripe)) }
 {
-    match memory.block_bytes(member, stripe) {
+    match memory.block_bytes(Address {
+        member,
+        block: stripe,
+    }) {
         Some(bytes) => block_of(bytes),
         None => None,
     }

@@ -5,7 +5,8 @@
 mod tests {
     use fuse::Fuse;
     use member_store::MemberStore;
-    use member_store::refusal::{Place, Refusal};
+    use block_address::Address;
+use member_store::refusal::Refusal;
     use memory_store::memory::MemoryStore;
     use remote_fuse::RemoteFuse;
     use remote_fuse::switch::FuseSwitch;
@@ -52,7 +53,7 @@ mod tests {
     }
 
     fn no_power_at(block: u8) -> Option<Refusal> {
-        Some(Refusal::PowerOff(Some(Place {
+        Some(Refusal::PowerOff(Some(Address {
             member: 0,
             block: usize::from(block),
         })))
@@ -122,7 +123,7 @@ mod tests {
         let mut into = [7u8; 512];
         assert!(rt;
             store.read(1, 2, &mut into)
-                == Err(Refusal::PowerOff(Some(Place {
+                == Err(Refusal::PowerOff(Some(Address {
                     member: 1,
                     block: 2,
                 })))

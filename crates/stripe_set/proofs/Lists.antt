@@ -1,7 +1,7 @@
 -- Rising lists: what they name, and two together.
-use Rattle.std.proofs.Common.{◌≡◌, ℕ, zero, suc, ◌+◌, ◌<◌, ◌≤◌, Bool, true, false, cond, ◌&&◌, ◌||◌, eqb, ltb, leb, ◌⊎◌, List, [], ◌∷◌, ◌++◌, length, get_or, take, drop, set, Some, None, sym, refl, ap, ◌∙◌, subst, inl, inr, ⊎_elim, add-one, arith}
-use Rattle.std.proofs.lemmas.List.{drop_more, take_more_set, append_assoc, append-nil, drop_all, length-drop, length-append, length-take-le, length-set}
-use Rattle.std.proofs.lemmas.Bool.{and_left, and_right, lt-leb, and_parts, and_from, leb-true, ltb-true, lt-ltb, le-ltb, le-leb, ne_eqb, eq-eqb, or_from, or_left, or_right, or_cases, eqb-true, eqb-false, cond-true, cond-false, ltb-false, cases_order}
+use Rattle.std.proofs.Common.{◌≡◌, ℕ, zero, suc, ◌+◌, ◌<◌, ◌≤◌, Bool, true, false, cond, ◌&&◌, ◌||◌, eqb, ltb, leb, ◌⊎◌, List, [], ◌∷◌, length, get_or, drop, Some, None, sym, refl, ap, ◌∙◌, subst, inl, inr, ⊎_elim, add-one, arith}
+use Rattle.std.proofs.lemmas.List.{drop_more}
+use Rattle.std.proofs.lemmas.Bool.{and_parts, and_from, leb-true, ltb-true, lt-ltb, le-leb, ne_eqb, eq-eqb, or_from, or_left, or_right, or_cases, eqb-true, eqb-false, cond-true, ltb-false, cases_order}
 use Rattle.stripe_set.specs.Rising.{rising}
 use Rattle.stripe_set.specs.Stripes.{bounded}
 use Rattle.stripe_set.specs.Named.{named, InBoth}
@@ -36,6 +36,17 @@ rising_suc a (suc i) (s ∷ ss) r h = rising_suc (s + 1) i ss (rising_tail a s s
 
 pub rising_past : (a i : ℕ) (ss : List ℕ) → rising a ss ≡ true → i < length ss → rising (get_or ss i 0 + 1) (drop (i + 1) ss) ≡ true
 rising_past a i ss r h = subst (λ (j : ℕ). rising (get_or ss i 0 + 1) (drop j ss) ≡ true) (sym (add-one i)) (rising_suc a i ss r h)
+
+pub rising_pair : (a i : ℕ) (ss : List ℕ) → rising a ss ≡ true → i + 1 < length ss → get_or ss i 0 < get_or ss (i + 1) 0
+rising_pair a i ss r h =
+    let t : rising (get_or ss i 0 + 1) (get_or ss (i + 1) 0 ∷ drop (i + 1 + 1) ss) ≡ true = rw (drop_more ss (i + 1) 0 h) at (rising_past a i ss r (omega arith)) in
+    (let u : get_or ss i 0 + 1 ≤ get_or ss (i + 1) 0 = (rising_tail _ _ _ t).0 in omega arith)
+
+pub rising_pairs : (a : ℕ) (ss : List ℕ) → (0 < length ss → a ≤ get_or ss 0 0) → ((k : ℕ) → k < length ss → get_or ss k 0 < 4294967296) → ((k j : ℕ) → j ≡ k + 1 → j < length ss → get_or ss k 0 < get_or ss j 0) → rising a ss ≡ true
+rising_pairs a [] h small up = refl
+rising_pairs a (s ∷ ss) h small up =
+    rising_cons a s ss (h (omega arith)) (small 0 (omega arith))
+    (rising_pairs (s + 1) ss (λ k. let u : s < get_or ss 0 0 = up 0 1 refl (omega arith) in omega arith) (λ k l. small (suc k) (omega arith)) (λ k j e l. up (suc k) (suc j) (omega arith) (omega arith)))
 
 -- what stands in one of the two stands in both together
 module _ (s x : ℕ) (xs : List ℕ) (rest : List ℕ → List ℕ) (left : (ys : List ℕ) → named s xs ≡ true → named s (rest ys) ≡ true) (right : (ys : List ℕ) → named s ys ≡ true → named s (rest ys) ≡ true) where
@@ -101,69 +112,6 @@ unfolding merged
 merged_rising [] a ys p q = q
 merged_rising (x ∷ xs) a ys p q = placed_rising x xs (λ zs. merged xs zs) (λ b zs k l. merged_rising xs b zs k l) a ys p q
 
--- ---- one step of a merged
-module _ (own list : List ℕ) (i j : ℕ) where
-  abbrev x : ℕ
-  x = get_or own i 0
-
-  abbrev y : ℕ
-  y = get_or list j 0
-
-  pub own_only : i < length own → length list ≤ j → merged (drop i own) (drop j list) ≡ x ∷ merged (drop (i + 1) own) (drop j list)
-  unfolding merged
-  own_only h k = rw (drop_more own i 0 h, drop_all j list k)
-
-  pub list_only : length own ≤ i → j < length list → merged (drop i own) (drop j list) ≡ y ∷ merged (drop i own) (drop (j + 1) list)
-  unfolding merged
-  list_only h k = rw (drop_all i own h, drop_more list j 0 k)
-
-  pub own_first : i < length own → j < length list → x < y → merged (drop i own) (drop j list) ≡ x ∷ merged (drop (i + 1) own) (drop j list)
-  unfolding merged
-  own_first h k l = rw (drop_more own i 0 h, drop_more list j 0 k, lt-ltb x y l)
-
-  pub both_first : i < length own → j < length list → x ≡ y → merged (drop i own) (drop j list) ≡ x ∷ merged (drop (i + 1) own) (drop (j + 1) list)
-  unfolding merged
-  both_first h k l = rw (drop_more own i 0 h, drop_more list j 0 k, le-ltb x y (omega arith), eq-eqb x y l)
-
-  pub list_first : i < length own → j < length list → y < x → merged (drop i own) (drop j list) ≡ y ∷ merged (drop i own) (drop (j + 1) list)
-  unfolding merged
-  list_first h k l = rw (drop_more own i 0 h, drop_more list j 0 k, le-ltb x y (omega arith), ne_eqb x y (λ e. omega arith))
-
-pub taken : (items rest old total : List ℕ) (len z : ℕ) → len < length items → old ≡ z ∷ rest → take len items ++ old ≡ total → take (len + 1) (set items len z) ++ rest ≡ total
-taken items rest old total len z h e f =
-    ap (λ l. l ++ rest) (take_more_set items len z h) ∙ append_assoc (take len items) (z ∷ []) rest ∙ ap (λ l. take len items ++ l) (sym e) ∙ f
-
-merged_pos : (xs ys : List ℕ) → (0 < length xs) ⊎ (0 < length ys) → 0 < length (merged xs ys)
-unfolding merged
-merged_pos [] ys h = ⊎_elim (λ k. absurd (omega arith)) (λ k. k) h
-merged_pos (x ∷ xs) [] h = omega arith
-merged_pos (x ∷ xs) (y ∷ ys) h = elim (ltb x y) as (λ b. 0 < length (cond b (x ∷ merged xs (y ∷ ys)) (cond (eqb x y) (x ∷ merged xs ys) (y ∷ placed x (λ zs. merged xs zs) ys)))) [ true ↦ omega arith | false ↦ elim (eqb x y) as (λ b. 0 < length (cond b (x ∷ merged xs ys) (y ∷ placed x (λ zs. merged xs zs) ys))) [ true ↦ omega arith | false ↦ omega arith ] ]
-
--- 64 are taken, and there are more
-pub too_many : (items own list : List ℕ) (len i j : ℕ) → len ≡ 64 → length items ≡ 64 → (i < length own) ⊎ (j < length list) → take len items ++ merged (drop i own) (drop j list) ≡ merged own list → 64 < length (merged own list)
-too_many items own list len i j e w h f =
-    let q : (0 < length (drop i own)) ⊎ (0 < length (drop j list)) = ⊎_elim (λ k. inl (omega (arith, length-drop i own))) (λ k. inr (omega (arith, length-drop j list))) h in
-    omega (arith, ap length (sym f), length-append (take len items) (merged (drop i own) (drop j list)), length-take-le len items (omega arith), merged_pos (drop i own) (drop j list) q)
-
-abbrev pub Steps : (items own list : List ℕ) (len i j : ℕ) → Type 0
-Steps items own list len i j = (len ≤ 64) × (length items ≡ 64) × (i ≤ length own) × (j ≤ length list) × (take len items ++ merged (drop i own) (drop j list) ≡ merged own list)
-
--- one more is taken
-pub stepping : (items items' own list : List ℕ) (len i j i' j' i'' j'' z : ℕ) → Steps items own list len i j → (len ≡ 64 → ⊥) → items' ≡ set items len z → i'' ≡ i' → j'' ≡ j' → i' ≤ length own → j' ≤ length list → merged (drop i own) (drop j list) ≡ z ∷ merged (drop i' own) (drop j' list) → Steps items' own list (len + 1) i'' j''
-stepping items items' own list len i j i' j' i'' j'' z v n ei e1 e2 h k m =
-    let v0 = v.0 in
-    let v1 = v.1 in
-    let q : Steps (set items len z) own list (len + 1) i' j' = (omega arith, length-set items len z ∙ v1, h, k, taken items (merged (drop i' own) (drop j' list)) (merged (drop i own) (drop j list)) (merged own list) len z (omega arith) m v.4) in
-    subst (λ (u : List ℕ). Steps u own list (len + 1) i'' j'') (sym ei) (subst (λ (u : ℕ). Steps (set items len z) own list (len + 1) u j'') (sym e1) (subst (λ (u : ℕ). Steps (set items len z) own list (len + 1) i' u) (sym e2) q))
-
-pub all_taken : (items own list : List ℕ) (len i j : ℕ) → Steps items own list len i j → length own ≤ i → length list ≤ j → take len items ≡ merged own list
-unfolding merged
-all_taken items own list len i j v h k =
-    sym (append-nil (take len items)) ∙ ap (λ l. take len items ++ l) (sym (ap (λ l. merged l (drop j list)) (drop_all i own h) ∙ drop_all j list k)) ∙ v.4
-
-pub rising_head : (a x : ℕ) (xs : List ℕ) → a ≤ x → x < 4294967296 → rising a (x ∷ xs) ≡ rising (x + 1) xs
-rising_head a x xs h k = rw (le-leb a x h, lt-ltb x 4294967296 k)
-
 pub or_skip : (x y : Bool) → x ≡ false → (x || y) ≡ y
 or_skip x y e = rw e
 
@@ -171,12 +119,6 @@ pub same_merged : (xs ys xs' ys' : List ℕ) → xs ≡ xs' → ys ≡ ys' → m
 same_merged xs ys xs' ys' e f = ap (λ l. merged l ys) e ∙ ap (merged xs') f
 
 -- ---- what a set can hold
-
-pub too_long : (ss : List ℕ) → 64 < length ss → None ≡ bounded ss
-too_long ss h = sym (cond-false (leb (length ss) 64 && rising 0 ss) (Some ss) None (and_left _ _ (lt-leb (length ss) 64 h)))
-
-pub falling : (ss : List ℕ) → rising 0 ss ≡ false → None ≡ bounded ss
-falling ss e = sym (cond-false (leb (length ss) 64 && rising 0 ss) (Some ss) None (and_right (leb (length ss) 64) _ e))
 
 pub within : (ss : List ℕ) → length ss ≤ 64 → rising 0 ss ≡ true → Some ss ≡ bounded ss
 within ss h e = sym (cond-true (leb (length ss) 64 && rising 0 ss) (Some ss) None (and_from _ _ (le-leb (length ss) 64 h) e))

@@ -1,7 +1,7 @@
 //! Sets of at most 64 stripe numbers, kept as rising lists.
 #![tactic(auto)]
 
-ghost use Rattle.std.specs.Prelude.{◌≡◌, [], length};
+ghost use Rattle.std.specs.Prelude.{◌≡◌, ◌+◌, ◌<◌, [], ◌∷◌, length, IfSome, MatchOption};
 ghost use Rattle.stripe_set.specs.Rising.{rising as increasing};
 ghost use Rattle.stripe_set.specs.Stripes.{stripes, held, bounded};
 ghost use Rattle.stripe_set.specs.Named.{named, LeastFrom, InBoth};
@@ -10,20 +10,31 @@ ghost use Rattle.stripe_set.specs.Union.{merged};
 pub mod set;
 
 use set::{MOST, StripeSet};
+use std::cmp::Ordering;
 
 /// Is each number above the one before?
 pub fn is_rising(list: &[u32]) -> bool
     ensures { result ≡ increasing 0 list.now }
 {
-    let mut least: u64 = 0;
-    for s in list {
-        let stripe = *s as u64;
-        if stripe < least {
-            return false;
-        }
-        least = stripe + 1;
+    list.is_sorted_by(|a, b| a < b)
+}
+
+// The least stripe of two rising lists, and what is left of each without it.
+#[tactic(auto, unfolding(crate::specs::Union::merged))]
+fn split_least<'a>(own: &'a [u32], list: &'a [u32]) -> Option<(u32, &'a [u32], &'a [u32])>
+    ensures value { MatchOption result (merged own.now list.now ≡ []) (λ r. merged own.now list.now ≡ r.0 ∷ merged r.1.now r.2.now) }
+    ensures shorter { IfSome result (λ r. length r.1.now + length r.2.now < length own.now + length list.now) }
+{
+    match (own.split_first(), list.split_first()) {
+        (None, None) => None,
+        (Some((a, left)), None) => Some((*a, left, list)),
+        (None, Some((b, right))) => Some((*b, own, right)),
+        (Some((a, left)), Some((b, right))) => Some(match a.cmp(b) {
+            Ordering::Less => (*a, left, list),
+            Ordering::Equal => (*a, left, right),
+            Ordering::Greater => (*b, own, right),
+        }),
     }
-    true
 }
 
 impl StripeSet {
@@ -41,16 +52,11 @@ impl StripeSet {
     pub fn from_slice(list: &[u32]) -> Option<StripeSet>
         ensures { held result ≡ bounded list.now }
     {
-        if list.len() > MOST {
-            return None;
-        }
-        if !is_rising(list) {
+        if list.len() > MOST || !is_rising(list) {
             return None;
         }
         let mut items = [0; MOST];
-        for (i, s) in list.iter().enumerate() {
-            items[i] = *s;
-        }
+        items[..list.len()].copy_from_slice(list);
         Some(StripeSet {
             items,
             len: list.len(),
@@ -75,26 +81,14 @@ impl StripeSet {
     pub fn contains(&self, stripe: u32) -> bool
         ensures { result ≡ named stripe (stripes self.now) }
     {
-        let own = self.as_slice();
-        for s in own {
-            if *s == stripe {
-                return true;
-            }
-        }
-        false
+        self.as_slice().contains(&stripe)
     }
 
     /// The least of them at or above a number, where there is one.
     pub fn least_from(&self, at: u32) -> Option<u32>
         ensures { LeastFrom (λ s. named s (stripes self.now)) at result }
     {
-        let own = self.as_slice();
-        for s in own {
-            if *s >= at {
-                return Some(*s);
-            }
-        }
-        None
+        self.as_slice().iter().copied().find(|s| *s >= at)
     }
 
     /// The stripes of both sets, if they are at most 64.
@@ -102,34 +96,18 @@ impl StripeSet {
         ensures value { held result ≡ bounded (merged (stripes self.now) (stripes other.now)) }
         ensures both { InBoth (merged (stripes self.now) (stripes other.now)) (stripes self.now) (stripes other.now) }
     {
-        let own = self.as_slice();
-        let list = other.as_slice();
+        let mut own = self.as_slice();
+        let mut list = other.as_slice();
         let mut items = [0; MOST];
         let mut len = 0;
-        let mut i = 0;
-        let mut j = 0;
-        while i < own.len() || j < list.len() {
+        while let Some((stripe, left, right)) = split_least(own, list) {
             if len == MOST {
                 return None;
             }
-            if j == list.len() {
-                items[len] = own[i];
-                i += 1;
-            } else if i == own.len() {
-                items[len] = list[j];
-                j += 1;
-            } else if own[i] < list[j] {
-                items[len] = own[i];
-                i += 1;
-            } else if own[i] == list[j] {
-                items[len] = own[i];
-                i += 1;
-                j += 1;
-            } else {
-                items[len] = list[j];
-                j += 1;
-            }
+            items[len] = stripe;
             len += 1;
+            own = left;
+            list = right;
         }
         Some(StripeSet { items, len })
     }

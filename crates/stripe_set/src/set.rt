@@ -6,6 +6,7 @@ ghost use Rattle.stripe_set.specs.Rising.{rising as increasing};
 pub const MOST: usize = 64;
 
 /// At most 64 stripe numbers, each above the one before.
+// Kept: an array and a length, since there is no heap here, and the kit's `ArrayVec` is not `Copy`, as this is.
 #[derive(Clone, Copy)]
 pub struct StripeSet {
     pub(super) items: [u32; MOST],

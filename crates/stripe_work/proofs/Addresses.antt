@@ -3,7 +3,7 @@ use Rattle.std.proofs.Common.{◌≡◌, ℕ, ◌<◌, ◌≤◌, Bool, true, fa
 use Rattle.std.proofs.lemmas.Bool.{lt-ltb, le-ltb, false≢true}
 use Rattle.geometry.specs.Layouts.{Arrangement}
 use Rattle.geometry.specs.Places.{content_at, member_content}
-use Rattle.geometry.specs.declared.place.Address.{Address}
+use Rattle.block_address.specs.declared.Address.{Address}
 use Rattle.geometry.specs.declared.place.Content.{Content}
 use Rattle.stripe_work.specs.Answers.{address_check}
 use Rattle.stripe_work.specs.declared.refusal.StripeRefusal.{StripeRefusal}

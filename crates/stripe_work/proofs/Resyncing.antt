@@ -1,6 +1,8 @@
 -- A check and a step of resynchronization, put together, and what they leave. Assumes nothing.
-use Rattle.std.proofs.Common.{◌≡◌, ℕ, ◌<◌, Bool, true, false, cond, List, [], ◌∷◌, replicate, None, Decides, Result, sym, refl, ap, ◌∙◌, subst}
+use Rattle.std.proofs.Common.{◌≡◌, ℕ, ◌<◌, Bool, true, false, not, cond, List, [], ◌∷◌, replicate, is_some, Some, None, Option, Decides, Result, sym, refl, ap, ◌∙◌, subst}
 use Rattle.std.specs.Str.{bytes_eq}
+use Rattle.std.specs.Bool.{then_some}
+use Rattle.std.proofs.lemmas.Bool.{false≢true}
 use Rattle.std.proofs.lemmas.Slice.Eq.{bytes_eq-Decides}
 use Rattle.std.proofs.lemmas.Bool.Decides.{same_from_decides}
 use Rattle.parity.specs.Xor.{parity_of}
@@ -13,7 +15,7 @@ use Rattle.device_calls.proofs.Properties.{every_then, every_first, every_turn, 
 use Rattle.device_calls.proofs.Left.{completed_counts, completed_on, completed_range, completed_spares, completed_gains, completed_reading, cut_short, cut_weaker}
 use Rattle.member_store.proofs.Checks.{passed}
 use Rattle.stripe_work.specs.Stripe.{Stripe, data_at, stripe_data, parity_at, parity_right, RightParity, InStore}
-use Rattle.stripe_work.specs.Work.{none_cached, cached_in, data_reads, parity_store, check_calls, resync_calls}
+use Rattle.stripe_work.specs.Work.{none_cached, cached_in, or_else, data_reads, parity_store, check_calls, resync_calls}
 use Rattle.stripe_work.specs.Outcomes.{Resynced, OthersSpared}
 use Rattle.stripe_work.proofs.Rows.{listed_same}
 use Rattle.stripe_work.proofs.Turns.{moved}
@@ -22,6 +24,24 @@ use Rattle.stripe_work.proofs.Parts.{Distinct, right_from_test, check_every, che
 -- the reads of a stripe of which nothing is cached, as an array of seven says
 abbrev first_reads : Stripe → List DeviceCall
 first_reads w = data_reads w (cached_in (replicate 7 None))
+
+-- the parity to store, by whether the stored one is right
+abbrev correction : Bool → List ℕ → Option (List ℕ)
+correction right x = cond right None (Some x)
+
+pub right_where_none : (right none : Bool) (x : List ℕ) (o : Option (List ℕ)) → o ≡ correction right x → is_some o ≡ not none → none ≡ right
+right_where_none true true x o e h = refl
+right_where_none false false x o e h = refl
+right_where_none true false x o e h = absurd (false≢true (sym (ap is_some e) ∙ h))
+right_where_none false true x o e h = absurd (false≢true (sym h ∙ ap is_some e))
+
+pub right_by_some : (right : Bool) (x : List ℕ) (o : Option (List ℕ)) → o ≡ correction right x → right ≡ not (is_some o)
+right_by_some true x o e = ap (λ p. not (is_some p)) (sym e)
+right_by_some false x o e = ap (λ p. not (is_some p)) (sym e)
+
+pub wrong_where_some : (right : Bool) (x y : List ℕ) → Some y ≡ correction right x → (right ≡ false) × (y ≡ x)
+wrong_where_some true x y e = absurd (false≢true (sym (ap is_some e)))
+wrong_where_some false x y e = (refl, ap (λ o. or_else o y) e)
 
 module _ (w : Stripe) (s : Meaning) where
   reads_done : (u : Meaning) → Completed (first_reads w) s u → Completed (data_reads w none_cached) s u
@@ -48,6 +68,15 @@ module _ (w : Stripe) (s : Meaning) where
       same_from_decides r (bytes_eq found want) h (bytes_eq-Decides found want)
       ∙ ap (λ x. bytes_eq x want) (g ∙ ap (λ v. current v a b) e ∙ ap (λ (i : ℕ). current s i b) p ∙ ap (λ (i : ℕ). current s w.parity i) q)
       ∙ ap (λ x. bytes_eq (parity_at w s) x) k
+
+  -- and the parity that is then to store
+  pub corrected : (found want : List ℕ) (same : Bool) (a b : ℕ) (u : Meaning) → Decides same (found ≡ want) → u ≡ s → a ≡ w.parity → b ≡ w.block → found ≡ current u a b → want ≡ parity_of (stripe_data w s)
+      → then_some (not same) want ≡ correction (parity_right w s) (parity_of (stripe_data w s))
+  corrected found want same a b u h e p q g k = either same want ∙ ap (λ x. correction same x) k ∙ ap (λ r. correction r (parity_of (stripe_data w s))) (decided found want same a b u h e p q g k)
+    where
+      either : (r : Bool) (x : List ℕ) → then_some (not r) x ≡ correction r x
+      either true x = refl
+      either false x = refl
 
   pub check_cut : (e : Refusal) (t : Meaning) → Stopped (check_calls w) s e t → CutShort (InStore w s) [] s e t
   check_cut e t d =

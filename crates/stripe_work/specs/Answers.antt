@@ -2,7 +2,7 @@
 use Rattle.std.specs.Prelude.{◌≡◌, ℕ, cond, List, Some, None, Option, Result, nat_lt}
 use Rattle.std.specs.Result as results
 use Rattle.geometry.specs.Places.{stripes, stripe_of_block}
-use Rattle.geometry.specs.declared.place.Address.{Address}
+use Rattle.block_address.specs.declared.Address.{Address}
 use Rattle.member_store.specs.Meaning.{Meaning}
 use Rattle.device_calls.specs.Lists.{DeviceCall, Completed, Stopped}
 use Rattle.device_calls.specs.Effects.{CutShort}

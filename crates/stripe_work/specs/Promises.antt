@@ -4,7 +4,7 @@ use Rattle.std.specs.Prelude.{◌≡◌, ℕ, ◌<◌, Bool, not, List, [], IfOk
 use Rattle.std.specs.Result as results
 use Rattle.geometry.specs.Layouts.{Arrangement}
 use Rattle.geometry.specs.Places.{stripes, stripe_of_block}
-use Rattle.geometry.specs.declared.place.Address.{Address}
+use Rattle.block_address.specs.declared.Address.{Address}
 use Rattle.member_store.specs.Meaning.{Meaning}
 use Rattle.member_store.specs.declared.refusal.Refusal.{Refusal}
 use Rattle.device_calls.specs.Lists.{Performs}

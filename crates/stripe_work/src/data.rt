@@ -1,93 +1,68 @@
 // The data of one stripe: read beside what is cached, its parity, and the cached part stored.
-ghost use Rattle.std.specs.Prelude.{◌≡◌, ℕ, ◌-◌, ◌<◌, ◌≤◌, take, OnOk};
-ghost use Rattle.geometry.specs.Counts.{members_of, blocks_of};
-ghost use Rattle.geometry.specs.Places.{stripes as stripe_count};
+ghost use Rattle.std.specs.Prelude.{◌≡◌, ◌-◌, ◌≤◌, length, take, OnOk};
+ghost use Rattle.geometry.specs.Counts.{members_of};
 ghost use Rattle.parity.specs.Xor.{parity_of};
 ghost use Rattle.device_calls.specs.Lists.{Performs};
 ghost use Rattle.stripe_work.specs.Stripe.{stripe_at};
-ghost use Rattle.stripe_work.specs.Work.{cached_in, held_in, data_reads, data_stores, merged_data};
+ghost use Rattle.stripe_work.specs.Work.{cached_in, data_reads, data_stores, merged_data};
 
 use crate::block::{read_block, store_block};
-use crate::place::data_place;
+use crate::stripe::Stripe;
 use geometry::layout::Layout;
-use geometry::shape::Shape;
-use member_store::MemberStore;
+use geometry::shape::MOST_MEMBERS;
 use member_store::refusal::Refusal;
+use member_store::{BLOCK_BYTES, MemberStore};
 use parity::parity;
 
 /// The most data blocks of a stripe.
-pub const MOST_POSITIONS: usize = 7;
+pub const MOST_POSITIONS: usize = MOST_MEMBERS - 1;
+
+/// The bytes of one block.
+pub type Block = [u8; BLOCK_BYTES];
 
 /// The cached blocks of a stripe, by position.
-pub type CachedBlocks = [Option<[u8; 512]>; MOST_POSITIONS];
-
-/// The cached blocks of a stripe from rows by position, and which of them hold one.
-pub fn cached_blocks(held: &[bool; 8], rows: &[[u8; 512]; 8]) -> CachedBlocks
-    ensures { (j : ℕ) → j < 7 → cached_in result j ≡ held_in held.now rows.now j }
-{
-    let mut cached = [None; MOST_POSITIONS];
-    for position in 0..MOST_POSITIONS {
-        if held[position] {
-            cached[position] = Some(rows[position]);
-        }
-    }
-    cached
-}
+pub type CachedBlocks = [Option<Block>; MOST_POSITIONS];
 
 // Puts all data of a stripe into rows, by position: the cached blocks, and the others as they are read.
 pub(super) fn read_data<S: MemberStore, L: Layout>(
     store: &mut S,
-    layout: &L,
-    shape: Shape,
-    stripe: usize,
+    stripe: &Stripe<L>,
     cached: &CachedBlocks,
-    rows: &mut [[u8; 512]; 7],
+    rows: &mut [Block; MOST_POSITIONS],
 ) -> Result<(), Refusal>
-    requires { stripe < stripe_count (blocks_of shape) }
-    ensures calls { Performs (data_reads (stripe_at L.Layout.arrangement (members_of shape) stripe) (cached_in cached.now)) (S.MemberStore.meaning store.old) result (S.MemberStore.meaning store.new) }
-    ensures rows { OnOk result (take (members_of shape - 1) rows.new ≡ merged_data (stripe_at L.Layout.arrangement (members_of shape) stripe) (cached_in cached.now) (S.MemberStore.meaning store.old)) }
+    ensures calls { Performs (data_reads (stripe_at L.Layout.arrangement (members_of stripe.now.geometry.shape) stripe.now.number) (cached_in cached.now)) (S.MemberStore.meaning store.old) result (S.MemberStore.meaning store.new) }
+    ensures rows { OnOk result (take (members_of stripe.now.geometry.shape - 1) rows.new ≡ merged_data (stripe_at L.Layout.arrangement (members_of stripe.now.geometry.shape) stripe.now.number) (cached_in cached.now) (S.MemberStore.meaning store.old)) }
 {
-    for position in 0..shape.members().positions() {
-        match cached[position] {
-            Some(block) => rows[position] = block,
-            None => {
-                let at = data_place(layout, shape, stripe, position);
-                if let Err(e) = read_block(store, at, &mut rows[position]) {
-                    return Err(e);
-                }
-            }
+    for (position, block) in cached[..stripe.positions()].iter().enumerate() {
+        match block {
+            Some(block) => rows[position] = *block,
+            None => read_block(store, stripe.data_address(position), &mut rows[position])?,
         }
     }
     Ok(())
 }
 
-// The parity of the first rows.
-pub(super) fn parity_of_rows(rows: &[[u8; 512]; 7], count: usize) -> [u8; 512]
-    requires { (2 ≤ count) × (count ≤ 7) }
-    ensures { result ≡ parity_of (take count rows.now) }
+/// The parity of a stripe's data blocks.
+pub fn parity_of_rows(rows: &[Block]) -> Block
+    requires { (2 ≤ length rows.now) × (length rows.now ≤ 7) }
+    ensures { result ≡ parity_of rows.now }
 {
-    let mut sum = [0u8; 512];
-    let _ = parity(&rows[0..count], &mut sum);
+    let mut sum = [0; BLOCK_BYTES];
+    let _ = parity(rows, &mut sum);
     sum
 }
 
 // Stores the cached blocks of a stripe, by position.
 pub(super) fn store_cached<S: MemberStore, L: Layout>(
     store: &mut S,
-    layout: &L,
-    shape: Shape,
-    stripe: usize,
+    stripe: &Stripe<L>,
     cached: &CachedBlocks,
 ) -> Result<(), Refusal>
-    requires { stripe < stripe_count (blocks_of shape) }
-    ensures { Performs (data_stores (stripe_at L.Layout.arrangement (members_of shape) stripe) (cached_in cached.now)) (S.MemberStore.meaning store.old) result (S.MemberStore.meaning store.new) }
+    ensures { Performs (data_stores (stripe_at L.Layout.arrangement (members_of stripe.now.geometry.shape) stripe.now.number) (cached_in cached.now)) (S.MemberStore.meaning store.old) result (S.MemberStore.meaning store.new) }
 {
-    for position in 0..shape.members().positions() {
-        if let Some(block) = cached[position] {
-            let at = data_place(layout, shape, stripe, position);
-            if let Err(e) = store_block(store, at, &block) {
-                return Err(e);
-            }
+    for (position, block) in cached[..stripe.positions()].iter().enumerate() {
+        if let Some(block) = block {
+            store_block(store, stripe.data_address(position), block)?;
         }
     }
     Ok(())

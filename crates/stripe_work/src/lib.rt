@@ -5,7 +5,7 @@
 mod block;
 pub mod data;
 pub mod destage;
-mod place;
 pub mod reconstruct;
 pub mod refusal;
 pub mod resync;
+pub mod stripe;

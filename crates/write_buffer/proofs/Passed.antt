@@ -6,7 +6,8 @@ use Rattle.member_store.specs.Refusals.{IsPowerOff}
 use Rattle.member_store.specs.Calls.{SameCounts, Cut, CutStore, Stored, Barred, PoweredOn, Stores, Reads, Bars, checks, barrier_checks}
 use Rattle.member_store.specs.declared.refusal.Refusal.{Refusal}
 use Rattle.member_store.proofs.Checks.{passing}
-use Rattle.member_store.proofs.Refusals.{some≢none, refused_cases, refused_went, refused_weaker}
+use Rattle.std.proofs.lemmas.Option.{none-some}
+use Rattle.member_store.proofs.Refusals.{refused_cases, refused_went, refused_weaker}
 use Rattle.member_store.proofs.Versions.{last_cond, in_cond, cond_in}
 use Rattle.write_buffer.specs.Replay.{is_to, replay, buffered}
 use Rattle.write_buffer.specs.Passing.{FewerVersions}
@@ -34,19 +35,19 @@ module _ (h : HeldStore) (s t : Meaning) (on : s.on ≡ true) where
   abbrev over : Meaning
   over = buffered (h ∷ []) s
 
-  down_former : ((i j : ℕ) (v : List ℕ) → HasBlock s i j → Version t i j v → Version s i j v ⊎ ((i ≡ h.member) × (j ≡ h.block) × (v ≡ h.bytes))) → (m b : ℕ) (v : List ℕ) → HasBlock s m b → Version t m b v → Version over m b v
+  down_former : ((i j : ℕ) (v : List ℕ) → HasBlock s i j → Version t i j v → Version s i j v ⊎ ((i ≡ h.at.member) × (j ≡ h.at.block) × (v ≡ h.bytes))) → (m b : ℕ) (v : List ℕ) → HasBlock s m b → Version t m b v → Version over m b v
   down_former f m b v p k = cond_in (is_to h m b) (s.versions m b) h.bytes v (⊎_elim inl (λ e. inr (is_to_from h m b (e.0, e.1), e.2)) (f m b v p k))
 
-  stored_fewer : Stored s h.member h.block h.bytes t → FewerVersions over t
+  stored_fewer : Stored s h.at.member h.at.block h.bytes t → FewerVersions over t
   stored_fewer k = record {
     on = k.on ∙ sym on;
     sized = record { members = k.sized.members; blocks = k.sized.blocks };
-    same = λ m b p. last_cond (is_to h m b) [] (s.versions m b) h.bytes (current t m b) (λ e. let q = is_to_true h m b e in ap (λ i. current t i b) q.0 ∙ ap (λ j. current t h.member j) q.1 ∙ k.here) (λ e. k.elsewhere m b p (is_to_false h m b e));
+    same = λ m b p. last_cond (is_to h m b) [] (s.versions m b) h.bytes (current t m b) (λ e. let q = is_to_true h m b e in ap (λ i. current t i b) q.0 ∙ ap (λ j. current t h.at.member j) q.1 ∙ k.here) (λ e. k.elsewhere m b p (is_to_false h m b e));
     former = down_former k.former;
   }
 
   -- power went: the store stays held
-  cut_kept : (later : List HeldStore) → CutStore s h.member h.block h.bytes t → Cut (buffered (h ∷ later) s) (buffered (h ∷ later) t)
+  cut_kept : (later : List HeldStore) → CutStore s h.at.member h.at.block h.bytes t → Cut (buffered (h ∷ later) s) (buffered (h ∷ later) t)
   cut_kept later k = record {
     off = k.off;
     sized = record { members = k.sized.members; blocks = k.sized.blocks };
@@ -54,36 +55,36 @@ module _ (h : HeldStore) (s t : Meaning) (on : s.on ≡ true) where
   }
 
   -- a store to no block is seen at none
-  nowhere : (HasBlock s h.member h.block → ⊥) → t ≡ s → FewerVersions over t
+  nowhere : (HasBlock s h.at.member h.at.block → ⊥) → t ≡ s → FewerVersions over t
   nowhere none e = record {
     on = ap (λ u. u.on) e;
     sized = record { members = ap (λ u. u.members) e; blocks = ap (λ u. u.blocks) e };
     same = λ m b p. last_cond (is_to h m b) [] (s.versions m b) h.bytes (current t m b) (λ q. absurd (none (away m b p q))) (λ _. ap (λ u. current u m b) e);
     former = λ m b v p k. cond_in (is_to h m b) (s.versions m b) h.bytes v (inl (subst (λ u. Version u m b v) e k));
   } where
-    away : (m b : ℕ) → HasBlock s m b → is_to h m b ≡ true → HasBlock s h.member h.block
+    away : (m b : ℕ) → HasBlock s m b → is_to h m b ≡ true → HasBlock s h.at.member h.at.block
     away m b p q = let e = is_to_true h m b q in (subst (λ i. i < s.members) e.0 p.0, subst (λ j. j < s.blocks) e.1 p.1)
 
-  passed_fewer : (r : Result (Unit {0}) Refusal) → length h.bytes ≡ 512 → Stores s h.member h.block h.bytes r t → t.on ≡ true → FewerVersions over t
+  passed_fewer : (r : Result (Unit {0}) Refusal) → length h.bytes ≡ 512 → Stores s h.at.member h.at.block h.bytes r t → t.on ≡ true → FewerVersions over t
   passed_fewer (Ok u) long k up = stored_fewer k.1
   passed_fewer (Err e) long k up =
       ⊎_elim
       (λ c. absurd (both_ways t.on c.1.1.off up))
-      (λ c. nowhere (λ p. absurd (some≢none (sym c.0 ∙ passing s.on s.members s.blocks h.member h.block (length h.bytes) (record { on = on; member = p.0; block = p.1; long = long })))) c.1)
-      (refused_cases (checks s h.member h.block (length h.bytes)) e _ _ k)
+      (λ c. nowhere (λ p. absurd (none-some e (sym (passing s.on s.members s.blocks h.at.member h.at.block (length h.bytes) (record { on = on; member = p.0; block = p.1; long = long })) ∙ c.0))) c.1)
+      (refused_cases (checks s h.at.member h.at.block (length h.bytes)) e _ _ k)
 
   -- power stayed: the oldest is gone from what is held
-  pub gone_fewer : (hs left : List HeldStore) (r : Result (Unit {0}) Refusal) → hs ≡ h ∷ left → length h.bytes ≡ 512 → Stores s h.member h.block h.bytes r t → t.on ≡ true → FewerVersions (buffered hs s) (buffered left t)
+  pub gone_fewer : (hs left : List HeldStore) (r : Result (Unit {0}) Refusal) → hs ≡ h ∷ left → length h.bytes ≡ 512 → Stores s h.at.member h.at.block h.bytes r t → t.on ≡ true → FewerVersions (buffered hs s) (buffered left t)
   gone_fewer hs left r e long k up = rw e (fewer_under left over t (passed_fewer r long k up))
 
   -- power went: what was held is held, and a refusal comes up
-  pub kept_cut : (hs later : List HeldStore) (r : Result (Unit {0}) Refusal) → hs ≡ h ∷ later → Stores s h.member h.block h.bytes r t → t.on ≡ false → (e : Refusal) × (r ≡ Err e) × IsPowerOff e × Cut (buffered hs s) (buffered hs t)
+  pub kept_cut : (hs later : List HeldStore) (r : Result (Unit {0}) Refusal) → hs ≡ h ∷ later → Stores s h.at.member h.at.block h.bytes r t → t.on ≡ false → (e : Refusal) × (r ≡ Err e) × IsPowerOff e × Cut (buffered hs s) (buffered hs t)
   kept_cut hs later (Ok u) is k down = absurd (both_ways t.on down k.1.on)
   kept_cut hs later (Err e) is k down =
       ⊎_elim
       (λ c. (e, refl, c.1.0, rw is (cut_kept later c.1.1)))
       (λ c. absurd (both_ways t.on down (ap (λ u. u.on) c.1 ∙ on)))
-      (refused_cases (checks s h.member h.block (length h.bytes)) e _ _ k)
+      (refused_cases (checks s h.at.member h.at.block (length h.bytes)) e _ _ k)
 
 -- versions lost first, then changed
 module _ (s t u : Meaning) (h : FewerVersions s t) where
@@ -126,29 +127,21 @@ module _ (s t u : Meaning) (h : FewerVersions s t) where
     former = λ m b v p j. h.former m b v p (k.former m b v (place p) j);
   }
 
-pub fewer_none : (s : Meaning) → FewerVersions s s
-fewer_none s = record {
-  on = refl;
-  sized = record { members = refl; blocks = refl };
-  same = λ m b p. refl;
-  former = λ m b v p k. k;
-}
-
 -- power going before the store is a cut store that added nothing
 pub cut_store : (s t : Meaning) (m b : ℕ) (x : List ℕ) → Cut s t → CutStore s m b x t
 cut_store s t m b x k = record { off = k.off; sized = k.sized; former = λ i j v p e. inl (k.former i j v p e) }
 
 -- one store more is held
-pub stored_push : (hs : List HeldStore) (h : HeldStore) (s : Meaning) → s.on ≡ true → Stored (buffered hs s) h.member h.block h.bytes (buffered (hs ++ h ∷ []) s)
+pub stored_push : (hs : List HeldStore) (h : HeldStore) (s : Meaning) → s.on ≡ true → Stored (buffered hs s) h.at.member h.at.block h.bytes (buffered (hs ++ h ∷ []) s)
 stored_push hs h s on = record {
   on = on;
   sized = record { members = refl; blocks = refl };
-  here = ap (last_or []) (replay_push h.member h.block hs h (s.versions h.member h.block)) ∙ sym (last_cond (is_to h h.member h.block) [] _ h.bytes h.bytes (λ _. refl) (λ e. absurd (is_to_false h h.member h.block e (refl, refl))));
+  here = ap (last_or []) (replay_push h.at.member h.at.block hs h (s.versions h.at.member h.at.block)) ∙ sym (last_cond (is_to h h.at.member h.at.block) [] _ h.bytes h.bytes (λ _. refl) (λ e. absurd (is_to_false h h.at.member h.at.block e (refl, refl))));
   elsewhere = λ i j p d. ap (last_or []) (replay_push i j hs h (s.versions i j)) ∙ sym (last_cond (is_to h i j) [] (replay i j hs (s.versions i j)) h.bytes _ (λ e. absurd (d (is_to_true h i j e))) (λ _. refl));
   former = λ i j v p k. ⊎_elim inl (λ e. let q = is_to_true h i j e.0 in inr (q.0, q.1, e.1)) (in_cond (is_to h i j) (replay i j hs (s.versions i j)) h.bytes v (subst (In v) (replay_push i j hs h (s.versions i j)) k));
 }
 
-pub held_last : (hs more : List HeldStore) (h : HeldStore) (x : List ℕ) (s : Meaning) → s.on ≡ true → more ≡ hs ++ h ∷ [] → h.bytes ≡ x → Stored (buffered hs s) h.member h.block x (buffered more s)
+pub held_last : (hs more : List HeldStore) (h : HeldStore) (x : List ℕ) (s : Meaning) → s.on ≡ true → more ≡ hs ++ h ∷ [] → h.bytes ≡ x → Stored (buffered hs s) h.at.member h.at.block x (buffered more s)
 held_last hs more h x s on e f = rw (← f, e) (stored_push hs h s on)
 
 -- power comes back, with nothing held
@@ -166,7 +159,7 @@ bars_then s t u (Ok x) on h k = (simp on, barred_then s t u h k.1)
 bars_then s t u (Err e) on h k =
     ⊎_elim
     (λ c. refused_went (barrier_checks s) e (u ≡ s) _ (simp on) (c.1.0, cut_then s t u h c.1.1))
-    (λ c. absurd (some≢none (sym c.0 ∙ simp (h.on, on))))
+    (λ c. absurd (none-some e (simp (h.on, on) at c.0)))
     (refused_cases (barrier_checks t) e (u ≡ t) _ k)
 
 pub reads_under : {U : Type 0} (hs : List HeldStore) (s t : Meaning) (m b : ℕ) (old new : List ℕ) (r : Result U Refusal) → current (buffered hs s) m b ≡ current s m b → Reads s m b old r new t → Reads (buffered hs s) m b old r new (buffered hs t)

@@ -5,7 +5,7 @@ use Rattle.write_buffer.specs.declared.held.HeldStore.{HeldStore}
 
 -- Is h a store to block b of member m?
 abbrev pub is_to : HeldStore → ℕ → ℕ → Bool
-is_to h m b = h.member == m && h.block == b
+is_to h m b = h.at.member == m && h.at.block == b
 
 -- Is a store to block b of member m held?
 abbrev pub holds : List HeldStore → ℕ → ℕ → Bool

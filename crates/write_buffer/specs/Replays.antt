@@ -7,15 +7,15 @@ use Rattle.member_store.proofs.Versions.{last_push, in_cond, cond_in}
 use Rattle.write_buffer.specs.Replay.{is_to, holds, replay}
 use Rattle.write_buffer.specs.declared.held.HeldStore.{HeldStore}
 
-pub is_to_true : (h : HeldStore) (m b : ℕ) → is_to h m b ≡ true → (m ≡ h.member) × (b ≡ h.block)
+pub is_to_true : (h : HeldStore) (m b : ℕ) → is_to h m b ≡ true → (m ≡ h.at.member) × (b ≡ h.at.block)
 is_to_true h m b e =
     let p = and_parts _ _ e in
-    (sym (eqb-true h.member m p.0), sym (eqb-true h.block b p.1))
+    (sym (eqb-true h.at.member m p.0), sym (eqb-true h.at.block b p.1))
 
-pub is_to_from : (h : HeldStore) (m b : ℕ) → (m ≡ h.member) × (b ≡ h.block) → is_to h m b ≡ true
-is_to_from h m b p = and_from _ _ (eq-eqb h.member m (sym p.0)) (eq-eqb h.block b (sym p.1))
+pub is_to_from : (h : HeldStore) (m b : ℕ) → (m ≡ h.at.member) × (b ≡ h.at.block) → is_to h m b ≡ true
+is_to_from h m b p = and_from _ _ (eq-eqb h.at.member m (sym p.0)) (eq-eqb h.at.block b (sym p.1))
 
-pub is_to_false : (h : HeldStore) (m b : ℕ) → is_to h m b ≡ false → (m ≡ h.member) × (b ≡ h.block) → ⊥
+pub is_to_false : (h : HeldStore) (m b : ℕ) → is_to h m b ≡ false → (m ≡ h.at.member) × (b ≡ h.at.block) → ⊥
 is_to_false h m b e p = both_ways _ e (is_to_from h m b p)
 
 module _ (m b : ℕ) where

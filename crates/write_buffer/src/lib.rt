@@ -1,12 +1,11 @@
 // The write buffer: over any member store, holds up to 8 stores back.
 #![tactic(auto)]
 
-ghost use Rattle.std.specs.Prelude.{◌≡◌, ◌+◌, ◌<◌, true, false, [], length, IfNone, vec_len, MatchOption, MatchResult};
+ghost use Rattle.std.specs.Prelude.{◌≡◌, ◌+◌, ◌<◌, true, false, [], length, OnOk, vec_len, MatchOption, MatchResult};
 ghost use Rattle.member_store.specs.Meaning.{current};
-ghost use Rattle.member_store.specs.Refusals.{IsPowerOff};
-ghost use Rattle.member_store.specs.Calls.{checks, Reads, Stored, Bars, PoweredOn, Cut};
-ghost use Rattle.write_buffer.specs.Replay.{is_to, holds, buffered};
-ghost use Rattle.write_buffer.specs.Passing.{FewerVersions, PassesOldest, PassesAll};
+ghost use Rattle.member_store.specs.Calls.{checks, Reads, Stored, Bars, PoweredOn};
+ghost use Rattle.write_buffer.specs.Replay.{holds, buffered};
+ghost use Rattle.write_buffer.specs.Passing.{OnlyLoses, PassesOldest, PassesAll};
 ghost use Rattle.write_buffer.specs.Buffer.{Newest, Appended, MakesRoom, BufferReads, BufferStores, BufferBars};
 ghost use Rattle.write_buffer.specs.Replays.{replay_stands, replay_whole};
 ghost use Rattle.std.proofs.Common.{rules, arith};
@@ -14,39 +13,32 @@ ghost use Rattle.std.proofs.Common.{rules, arith};
 pub mod buffer;
 pub mod held;
 
+use block_address::Address;
 use buffer::WriteBuffer;
 use held::HeldStore;
 use member_store::refusal::Refusal;
-use member_store::{BLOCK_BYTES, MemberStore, first_refusal};
+use member_store::{BLOCK_BYTES, MemberStore};
 use std::alloc::Global;
 
 /// How many stores are held at most.
 const CAPACITY: usize = 8;
-
-impl HeldStore {
-    fn is_to(&self, member: usize, block: usize) -> bool
-        ensures { result ≡ is_to self.now member block }
-    {
-        (self.member == member) & (self.block == block)
-    }
-}
 
 impl<S: MemberStore> WriteBuffer<S> {
     /// An empty buffer over `below`, which comes back where there is no memory for 8 stores.
     pub fn new(heap: Global, below: S) -> Result<WriteBuffer<S>, S>
         ensures { MatchResult result (λ w. (w.below ≡ below) × (w.held.items ≡ [])) (λ s. s ≡ below) }
     {
-        match Vec::with_capacity(heap, CAPACITY) {
-            Ok(held) => Ok(WriteBuffer { below, held }),
-            Err(_) => Err(below),
-        }
+        let Ok(held) = Vec::with_capacity(heap, CAPACITY) else {
+            return Err(below);
+        };
+        Ok(WriteBuffer { below, held })
     }
 
     /// Gives the store below back; what is held is lost.
     pub fn into_below(self) -> S
         ensures { result ≡ self.below }
     {
-        let WriteBuffer { below, held: _ } = self;
+        let WriteBuffer { below, .. } = self;
         below
     }
 
@@ -58,120 +50,74 @@ impl<S: MemberStore> WriteBuffer<S> {
     }
 
     /// The bytes of the newest held store to a block, whatever the power; none where none is held.
-    pub fn held_bytes(&self, member: usize, block: usize) -> Option<&[u8; 512]>
-        ensures { MatchOption result (holds self.now.held.items member block ≡ false) (λ x. (holds self.now.held.items member block ≡ true) × (x.now ≡ current (buffered self.now.held.items (S.MemberStore.meaning self.now.below)) member block)) }
+    pub fn held_bytes(&self, at: Address) -> Option<&[u8; 512]>
+        ensures { MatchOption result (holds self.now.held.items at.member at.block ≡ false) (λ x. (holds self.now.held.items at.member at.block ≡ true) × (x.now ≡ current (buffered self.now.held.items (S.MemberStore.meaning self.now.below)) at.member at.block)) }
     {
-        match self.newest(member, block) {
-            Some(i) => Some(&self.held[i].bytes),
-            None => None,
-        }
+        let newest = self.newest(at)?;
+        Some(&self.held[newest].bytes)
     }
 
     // The place of the newest held store to a block.
-    fn newest(&self, member: usize, block: usize) -> Option<usize>
-        ensures { Newest self.now.held.items member block result }
+    fn newest(&self, at: Address) -> Option<usize>
+        ensures { Newest self.now.held.items at.member at.block result }
     {
-        let mut found = None;
-        for (i, h) in self.held.iter().enumerate() {
-            if h.is_to(member, block) {
-                found = Some(i);
-            }
-        }
-        found
+        self.held.iter().rposition(|store| store.at == at)
     }
 
     // Passes the oldest held store below; where power goes it stays held and the refusal comes up.
-    fn pass_oldest(&mut self) -> Option<Refusal>
+    fn pass_oldest(&mut self) -> Result<(), Refusal>
         requires some { 0 < vec_len self.old.held }
         requires on { (S.MemberStore.meaning self.old.below).on ≡ true }
         ensures passes { PassesOldest S.MemberStore.meaning S.MemberStore.storing self.old.held.items self.old.below result self.new.held.items self.new.below }
-        ensures means { MatchOption result (FewerVersions (buffered self.old.held.items (S.MemberStore.meaning self.old.below)) (buffered self.new.held.items (S.MemberStore.meaning self.new.below))) (λ e. IsPowerOff e × Cut (buffered self.old.held.items (S.MemberStore.meaning self.old.below)) (buffered self.new.held.items (S.MemberStore.meaning self.new.below))) }
-        ensures len { MatchOption result (vec_len self.new.held + 1 ≡ vec_len self.old.held) (λ _. vec_len self.new.held ≡ vec_len self.old.held) }
+        ensures means { OnlyLoses result (buffered self.old.held.items (S.MemberStore.meaning self.old.below)) (buffered self.new.held.items (S.MemberStore.meaning self.new.below)) }
+        ensures len { MatchResult result (λ _. vec_len self.new.held + 1 ≡ vec_len self.old.held) (λ _. vec_len self.new.held ≡ vec_len self.old.held) }
     {
         let oldest = self.held[0];
-        let answer = self.below.store(oldest.member, oldest.block, &oldest.bytes);
+        let answer = self.below.store(oldest.at, &oldest.bytes);
         if !self.below.powered() {
-            return answer.err();
+            return answer;
         }
         let _ = self.held.remove(0);
-        None
+        Ok(())
     }
 
     // Passes all held stores below in order, until power goes.
-    fn pass_all(&mut self) -> Option<Refusal>
+    fn pass_all(&mut self) -> Result<(), Refusal>
         requires { (S.MemberStore.meaning self.old.below).on ≡ true }
         ensures passes { PassesAll S.MemberStore.meaning S.MemberStore.storing self.old.held.items self.old.below result self.new.held.items self.new.below }
-        ensures means { MatchOption result (FewerVersions (buffered self.old.held.items (S.MemberStore.meaning self.old.below)) (S.MemberStore.meaning self.new.below)) (λ e. IsPowerOff e × Cut (buffered self.old.held.items (S.MemberStore.meaning self.old.below)) (buffered self.new.held.items (S.MemberStore.meaning self.new.below))) }
-        ensures none { IfNone result (self.new.held.items ≡ []) }
+        ensures means { OnlyLoses result (buffered self.old.held.items (S.MemberStore.meaning self.old.below)) (buffered self.new.held.items (S.MemberStore.meaning self.new.below)) }
+        ensures none { OnOk result (self.new.held.items ≡ []) }
     {
-        while self.held.len() > 0 {
-            if let Some(e) = self.pass_oldest() {
-                return Some(e);
-            }
+        while !self.held.is_empty() {
+            self.pass_oldest()?;
         }
-        None
+        Ok(())
     }
 
     // Passes the oldest below where the buffer is full.
-    fn make_room(&mut self) -> Option<Refusal>
+    fn make_room(&mut self) -> Result<(), Refusal>
         requires { (S.MemberStore.meaning self.old.below).on ≡ true }
         ensures makes { MakesRoom S.MemberStore.meaning S.MemberStore.storing result self.old.held.items self.old.below self.new.held.items self.new.below }
-        ensures means { MatchOption result (FewerVersions (buffered self.old.held.items (S.MemberStore.meaning self.old.below)) (buffered self.new.held.items (S.MemberStore.meaning self.new.below))) (λ e. IsPowerOff e × Cut (buffered self.old.held.items (S.MemberStore.meaning self.old.below)) (buffered self.new.held.items (S.MemberStore.meaning self.new.below))) }
-        ensures room { IfNone result (vec_len self.new.held < 8) }
+        ensures means { OnlyLoses result (buffered self.old.held.items (S.MemberStore.meaning self.old.below)) (buffered self.new.held.items (S.MemberStore.meaning self.new.below)) }
+        ensures room { OnOk result (vec_len self.new.held < 8) }
     {
         if self.held.len() < CAPACITY {
-            return None;
+            return Ok(());
         }
         self.pass_oldest()
     }
 
     // Holds a store after the others.
-    fn hold(&mut self, member: usize, block: usize, bytes: &[u8])
+    fn hold(&mut self, at: Address, bytes: &[u8])
         requires room { vec_len self.old.held < 8 }
         requires on { (S.MemberStore.meaning self.old.below).on ≡ true }
         requires whole { length bytes.now ≡ 512 }
-        ensures appended { Appended self.old.held.items member block bytes.now self.new.held.items }
-        ensures stored { Stored (buffered self.old.held.items (S.MemberStore.meaning self.old.below)) member block bytes.now (buffered self.new.held.items (S.MemberStore.meaning self.new.below)) }
+        ensures appended { Appended self.old.held.items at.member at.block bytes.now self.new.held.items }
+        ensures stored { Stored (buffered self.old.held.items (S.MemberStore.meaning self.old.below)) at.member at.block bytes.now (buffered self.new.held.items (S.MemberStore.meaning self.new.below)) }
         ensures below { self.new.below ≡ self.old.below }
     {
-        let mut copy = [0u8; BLOCK_BYTES];
-        copy.copy_from_slice(bytes);
-        self.held.push_reserved(HeldStore {
-            member,
-            block,
-            bytes: copy,
-        });
-    }
-
-    // A barrier of the store below.
-    fn bar_below(&mut self) -> Result<(), Refusal>
-        ensures means { Bars (S.MemberStore.meaning self.old.below) result (S.MemberStore.meaning self.new.below) }
-        ensures own { S.MemberStore.barring self.old.below result self.new.below }
-        ensures held { self.new.held ≡ self.old.held }
-    {
-        self.below.barrier()
-    }
-
-    // Drops what is held.
-    fn drop_held(&mut self)
-        ensures none { self.new.held.items ≡ [] }
-        ensures below { self.new.below ≡ self.old.below }
-    {
-        self.held.clear();
-    }
-
-    // The checks of a read or a store of `len` bytes.
-    fn refusal_of(&self, member: usize, block: usize, len: usize) -> Option<Refusal>
-        ensures { result ≡ checks (buffered self.now.held.items (S.MemberStore.meaning self.now.below)) member block len }
-    {
-        first_refusal(
-            self.powered(),
-            self.members(),
-            self.blocks(),
-            member,
-            block,
-            len,
-        )
+        let bytes = <[u8; BLOCK_BYTES]>::try_from(bytes).unwrap();
+        self.held.push_reserved(HeldStore { at, bytes });
     }
 }
 
@@ -204,27 +150,21 @@ impl<S: MemberStore> MemberStore for WriteBuffer<S> {
         self.below.blocks()
     }
 
-    fn read(&mut self, member: usize, block: usize, into: &mut [u8]) -> Result<(), Refusal> {
-        if let Some(e) = self.refusal_of(member, block, into.len()) {
-            return Err(e);
-        }
-        match self.newest(member, block) {
+    fn read(&mut self, at: Address, into: &mut [u8]) -> Result<(), Refusal> {
+        self.check_access(at, into.len())?;
+        match self.newest(at) {
             Some(i) => {
                 into.copy_from_slice(&self.held[i].bytes);
                 Ok(())
             }
-            None => self.below.read(member, block, into),
+            None => self.below.read(at, into),
         }
     }
 
-    fn store(&mut self, member: usize, block: usize, bytes: &[u8]) -> Result<(), Refusal> {
-        if let Some(e) = self.refusal_of(member, block, bytes.len()) {
-            return Err(e);
-        }
-        if let Some(e) = self.make_room() {
-            return Err(e);
-        }
-        self.hold(member, block, bytes);
+    fn store(&mut self, at: Address, bytes: &[u8]) -> Result<(), Refusal> {
+        self.check_access(at, bytes.len())?;
+        self.make_room()?;
+        self.hold(at, bytes);
         Ok(())
     }
 
@@ -232,14 +172,12 @@ impl<S: MemberStore> MemberStore for WriteBuffer<S> {
         if !self.powered() {
             return Err(Refusal::PowerOff(None));
         }
-        if let Some(e) = self.pass_all() {
-            return Err(e);
-        }
-        self.bar_below()
+        self.pass_all()?;
+        self.below.barrier()
     }
 
     fn power_on(&mut self) {
-        self.drop_held();
+        self.held.clear();
         self.below.power_on();
     }
 }

@@ -8,10 +8,5 @@ ghost use Rattle.zero_bytes.specs.Zeros.{zeros};
 pub fn all_zero(bytes: &[u8]) -> bool
     ensures { result ≡ zeros bytes.now }
 {
-    for b in bytes {
-        if *b != 0 {
-            return false;
-        }
-    }
-    true
+    bytes.iter().all(|b| *b == 0)
 }

@@ -7,4 +7,4 @@ returns g c =
     let s = g.S.MemberStore.meaning c.args.store.now in
     let t = g.S.MemberStore.meaning c.store.new.self in
     let long : length c.args.bytes.now ≡ 512 = omega arith in
-    store_answers c.args.member c.args.block c.args.bytes.now s t c.store.result long c.store.ensures.means
+    store_answers c.args.at.member c.args.at.block c.args.bytes.now s t c.store.result long c.store.ensures.means

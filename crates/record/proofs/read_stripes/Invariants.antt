@@ -5,8 +5,9 @@ use Rattle.record.proofs.Stripes.{front}
 use Rattle.record.proofs.read_stripes.Given as goal
 
 -- what is left to read gives what is promised
-abbrev pub invariant-loop-i : goal.invariant-loop-i
-invariant-loop-i l =
+abbrev pub invariant-loop-place : goal.invariant-loop-place
+invariant-loop-place l =
     (l.pos ≤ length l.bytes)
-    × (stripes_from l.n 0 0 l.bytes l.at ≡ front (take l.i l.out) (stripes_from (l.n - l.i) l.least l.from l.bytes l.pos))
-    × ((ss : List ℕ) (end : ℕ) → SpeltAll l.bytes l.pos end l.from ss → SpeltAll l.bytes l.at end 0 (take l.i l.out ++ ss))
+    × (length l.place-items ≡ l.n)
+    × (stripes_from l.n 0 0 l.bytes l.at ≡ front (take l.place-index l.place-items) (stripes_from (l.n - l.place-index) l.least l.from l.bytes l.pos))
+    × ((ss : List ℕ) (end : ℕ) → SpeltAll l.bytes l.pos end l.from ss → SpeltAll l.bytes l.at end 0 (take l.place-index l.place-items ++ ss))

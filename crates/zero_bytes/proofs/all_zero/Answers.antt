@@ -1,21 +1,16 @@
-use Rattle.std.proofs.Common.{get_or, sym, ◌∙◌}
-use Rattle.std.proofs.lemmas.List.{at_drop_more, at_drop_all}
-use Rattle.std.proofs.lemmas.Bool.{and_left, ne_eqb, eq-eqb}
+use Rattle.std.proofs.Common.{◌≡◌, ℕ, ◌&&◌, eqb, List, [], ◌∷◌, refl, ap, ◌∙◌, rules}
+use Rattle.std.specs.List.{list_all}
+use Rattle.std.proofs.lemmas.Iterator.{YieldsList-from_slice}
+use Rattle.std.proofs.lemmas.Iterator.Search.{all_from_yields_List}
+use borrow.Author.Tests.{tests}
 use Rattle.zero_bytes.specs.Zeros.{zeros}
 use Rattle.zero_bytes.proofs.all_zero.Goals as goal
 
-pub returns-then-b-ne0 : goal.returns-then-b-ne0
-returns-then-b-ne0 c =
-    let l = c.args.bytes.now in
-    let i = c.loop-b.b-index in
-    sym (c.loop-b.invariant ∙ at_drop_more zeros l i 0 c.loop-b-test.true ∙ and_left _ _ (ne_eqb (get_or l i 0) 0 c.if-b-ne0.true))
-
-pub loop-b-preserved : goal.loop-b-preserved
-loop-b-preserved c =
-    let l = c.args.bytes.now in
-    let i = c.loop-b.b-index in
-    let e = eq-eqb (get_or l i 0) 0 c.if-b-ne0.false in
-    c.loop-b.invariant ∙ at_drop_more zeros l i 0 c.loop-b-test.true ∙ rw e
+same : (bs : List ℕ) → list_all (λ b. eqb b 0) bs ≡ zeros bs
+same [] = refl
+same (b ∷ bs) = ap (λ r. eqb b 0 && r) (same bs)
 
 pub returns : goal.returns
-returns c = sym (c.loop-b.invariant ∙ at_drop_all zeros c.args.bytes.now c.loop-b.b-index c.loop-b-test.false)
+returns c =
+    all_from_yields_List (λ b. eqb b 0) _ _ _ c.all.ensures.ran (YieldsList-from_slice c.args.bytes.now cc) (λ x b q k. search (rules, tests))
+    ∙ same c.args.bytes.now

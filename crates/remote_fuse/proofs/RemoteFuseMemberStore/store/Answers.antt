@@ -1,11 +1,4 @@
-use Rattle.std.proofs.Common.{sym}
 use Rattle.remote_fuse.proofs.RemoteFuseMemberStore.store.Goals as goal
 
-pub returns : goal.returns
-returns g c =
-    let below = sym c.obey.ensures.below in
-    let blown = sym c.obey.ensures.blown in
-    record {
-      means = rw (below, blown) c.store.ensures.means;
-      own = (c.obey.new.self.fuse.left, rw (below, blown) c.store.ensures.own);
-    }
+pub returns-clause-own : goal.returns-clause-own
+returns-clause-own g c = (c.obey.new.self.fuse.left, rw (← c.obey.ensures.below, ← c.obey.ensures.blown) c.store.ensures.own)

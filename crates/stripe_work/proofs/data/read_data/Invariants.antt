@@ -8,7 +8,7 @@ use Rattle.stripe_work.proofs.data.read_data.Given as goal
 abbrev pub invariant-loop-position : goal.invariant-loop-position
 invariant-loop-position g l =
     let s = g.S.MemberStore.meaning l.initial.store in
-    let w = stripe_at g.L.Layout.arrangement (members_of l.shape) l.stripe in
+    let w = stripe_at g.L.Layout.arrangement (members_of l.stripe.geometry.shape) l.stripe.number in
     let c = cached_in l.cached in
     (g.S.MemberStore.meaning l.store ≡ s)
     × Completed (for_each (λ j. uncached_read (c j) (w.member j) w.block) l.position) s s

@@ -5,11 +5,11 @@ use Rattle.stripe_work.specs.Stripe.{stripe_at}
 use Rattle.stripe_work.specs.Work.{check_calls, wrong_below}
 use Rattle.stripe_work.proofs.resync.count_wrong_stripes.Given as goal
 
-abbrev pub invariant-loop-stripe : goal.invariant-loop-stripe
-invariant-loop-stripe g l =
+abbrev pub invariant-loop-number : goal.invariant-loop-number
+invariant-loop-number g l =
     let s = g.S.MemberStore.meaning l.initial.store in
-    let m = members_of l.shape in
+    let m = members_of l.geometry.shape in
     (g.S.MemberStore.meaning l.store ≡ s)
-    × Completed (for_each (λ k. check_calls (stripe_at g.L.Layout.arrangement m k)) l.stripe) s s
-    × (l.wrong ≡ wrong_below g.L.Layout.arrangement m s l.stripe)
-    × (l.wrong ≤ l.stripe)
+    × Completed (for_each (λ k. check_calls (stripe_at g.L.Layout.arrangement m k)) l.number) s s
+    × (l.wrong ≡ wrong_below g.L.Layout.arrangement m s l.number)
+    × (l.wrong ≤ l.number)

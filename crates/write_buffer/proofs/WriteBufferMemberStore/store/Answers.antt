@@ -1,33 +1,13 @@
-use Rattle.std.proofs.Common.{vec_items, sym}
 use Rattle.member_store.proofs.Refusals.{refused_went}
-use Rattle.write_buffer.specs.Replay.{buffered}
-use Rattle.write_buffer.proofs.Orders.{stores_held, stores_stopped}
+use Rattle.std.proofs.lemmas.Result.{err_from_is_err_and}
 use Rattle.write_buffer.proofs.Passed.{cut_store, stored_then}
 use Rattle.write_buffer.proofs.WriteBufferMemberStore.store.Goals as goal
 
-pub returns-in-Some-make_room : goal.returns-in-Some-make_room
-returns-in-Some-make_room g c =
-    let w = c.args.self.now in
-    let u = c.make_room.new.self in
-    let passed = sym c.in_default.ensures in
-    let told = c.in-Some-make_room.ensures in
-    record {
-      means = refused_went _ _ _ _ passed (told.means.0, cut_store _ _ _ _ _ told.means.1);
-      own = stores_stopped g.S.MemberStore.meaning g.S.MemberStore.storing c.args.member c.args.block c.args.bytes.now (vec_items w.held) (vec_items u.held) w.below u.below c.in-Some-make_room.e passed told.makes;
-    }
+pub returns-in_err-make_room-clause-means : goal.returns-in_err-make_room-clause-means
+returns-in_err-make_room-clause-means g c =
+    let told = c.in_err-make_room.ensures in
+    let p = err_from_is_err_and c.from_residual-in_err-make_room.result c.from_residual-in_err-make_room.ensures.1 in
+    rw (p.1, p.2) (refused_went _ _ _ _ c.in_ok-check_access.ensures (told.means.0, cut_store _ _ _ _ _ told.means.1))
 
-pub returns : goal.returns
-returns g c =
-    let mean = g.S.MemberStore.meaning in
-    let w = c.args.self.now in
-    let u = c.make_room.new.self in
-    let v = c.hold.new.self in
-    let m = c.args.member in
-    let b = c.args.block in
-    let x = c.args.bytes.now in
-    let passed = sym c.in_default.ensures in
-    let told = c.in_default-make_room.ensures in
-    record {
-      means = (passed, stored_then (buffered (vec_items w.held) (mean w.below)) (buffered (vec_items u.held) (mean u.below)) (buffered (vec_items v.held) (mean v.below)) told.means m b x c.hold.ensures.stored);
-      own = stores_held mean g.S.MemberStore.storing m b x (vec_items w.held) (vec_items u.held) (vec_items v.held) w.below u.below v.below passed told.makes c.hold.ensures.appended c.hold.ensures.below;
-    }
+pub returns-clause-means : goal.returns-clause-means
+returns-clause-means g c = (c.in_ok-check_access.ensures, stored_then _ _ _ c.in_ok-make_room.ensures.means _ _ _ c.hold.ensures.stored)

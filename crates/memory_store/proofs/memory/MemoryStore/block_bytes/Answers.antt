@@ -6,8 +6,8 @@ use Rattle.memory_store.proofs.memory.MemoryStore.block_bytes.Goals as goal
 pub returns : goal.returns
 returns c =
     let s = c.args.self.now in
-    let m = c.args.member in
-    let b = c.args.block in
+    let m = c.args.at.member in
+    let b = c.args.at.block in
     let begin = c.offset-begin.result in
     let xs = c.deref.result.now in
     let ys = vec_items s.bytes in

@@ -1,14 +1,15 @@
-use Rattle.std.proofs.Common.{◌≡◌, ◌+◌, ◌-◌, ◌≤◌, ◌++◌, length, take, drop}
+use Rattle.std.proofs.Common.{◌≡◌, ◌+◌, ◌≤◌, ◌++◌, length, take}
+use Rattle.stripe_set.specs.Stripes.{stripes}
 use Rattle.stripe_set.specs.Union.{merged}
 use Rattle.stripe_set.proofs.set.StripeSet.union.Given as goal
 
-abbrev pub invariant-loop-i : goal.invariant-loop-i
-invariant-loop-i l =
-    (l.len ≤ 64)
-    × (length l.items ≡ 64)
-    × (l.i ≤ length l.own)
-    × (l.j ≤ length l.list)
-    × (take l.len l.items ++ merged (drop l.i l.own) (drop l.j l.list) ≡ merged l.own l.list)
+-- what is taken, and then what is left
+abbrev pub invariant-loop-stripe : goal.invariant-loop-stripe
+invariant-loop-stripe l = record {
+  few : l.len ≤ 64;
+  whole : length l.items ≡ 64;
+  all : take l.len l.items ++ merged l.own l.list ≡ merged (stripes l.self) (stripes l.other);
+}
 
-abbrev pub decreases-loop-i : goal.decreases-loop-i
-decreases-loop-i l = (length l.own - l.i) + (length l.list - l.j)
+abbrev pub decreases-loop-stripe : goal.decreases-loop-stripe
+decreases-loop-stripe l = length l.own + length l.list

@@ -1,14 +1,8 @@
-use Rattle.std.proofs.Common.{vec_items, refl}
+use Rattle.std.proofs.Common.{◌≡◌, rules}
 use Rattle.write_buffer.proofs.Passed.{held_last}
-use Rattle.write_buffer.proofs.Orders.{appended_from}
 use Rattle.write_buffer.proofs.buffer.WriteBuffer.hold.Goals as goal
 
-pub returns : goal.returns
-returns g c =
-    let w = c.args.self.now in
-    let s = g.S.MemberStore.meaning w.below in
-    record {
-      appended = appended_from (vec_items w.held) (vec_items c.push_reserved.new.self) _ c.args.bytes.now c.push_reserved.ensures.items c.copy_from_slice.ensures.after;
-      stored = held_last (vec_items w.held) (vec_items c.push_reserved.new.self) _ c.args.bytes.now s c.requires.on c.push_reserved.ensures.items c.copy_from_slice.ensures.after;
-      below = refl;
-    }
+pub returns-clause-stored : goal.returns-clause-stored
+returns-clause-stored g c =
+    let copied : c.unwrap-bytes.result ≡ c.args.bytes.now = search rules in
+    held_last _ _ _ c.args.bytes.now _ c.requires.on c.push_reserved.ensures.items copied

@@ -1,20 +1,20 @@
-use Rattle.std.proofs.Common.{◌<◌, length, get_or, vec_items, sym, ap, ◌∙◌, arith, rules}
-use Rattle.std.proofs.lemmas.List.{take_all}
-use Rattle.write_buffer.proofs.Newest.{newest_hit, newest_miss}
+use Rattle.std.proofs.Common.{◌≡◌, ◌+◌, ◌<◌, true, length, get_or, Some, None, vec_items, refl, rules}
+use Rattle.write_buffer.specs.Replay.{is_to}
+use Rattle.write_buffer.specs.Buffer.{Newest}
+use Rattle.write_buffer.specs.declared.held.HeldStore.{HeldStore}
+use Rattle.write_buffer.proofs.Newest.{ElsewhereFrom, none_held, newest_at}
 use Rattle.write_buffer.proofs.buffer.WriteBuffer.newest.Goals as goal
-use Rattle.write_buffer.proofs.buffer.WriteBuffer.newest.Goals.{then-is_to, else-is_to}
-
-pub loop-i-preserved : goal.loop-i-preserved
-loop-i-preserved g c =
-    let xs = vec_items c.args.self.now.held in
-    let i = c.loop-i.i in
-    let h = c.h-item.result in
-    let l : i < length xs = omega (arith, ap length c.deref-h-items.ensures.value) in
-    let is = c.h-item.is ∙ ap (λ ys. get_or ys i h) c.deref-h-items.ensures.value in
-    elim c.if-is_to.branch [
-      | then-is_to w ↦ simp w.found-is (newest_hit xs i c.args.member c.args.block h h l is (sym c.is_to.ensures ∙ w.if-is_to.true))
-      | else-is_to w ↦ simp w.found-is (newest_miss xs i c.args.member c.args.block h h l is (sym c.is_to.ensures ∙ w.if-is_to.false) c.loop-i.found c.loop-i.invariant)
-    ]
 
 pub returns : goal.returns
-returns g c = search (rules, take_all)
+returns g c =
+    let hs = vec_items c.args.self.now.held in
+    let m = c.args.at.member in
+    let b = c.args.at.block in
+    elim c.rposition.result as (λ r. c.rposition.result ≡ r → Newest hs m b r) [
+      | None ↦ λ e. let none : ElsewhereFrom m b 0 hs = search rules in none_held m b hs none
+      | Some i ↦ λ e.
+          let within : i < length hs = search rules in
+          let hit : (d : HeldStore) → is_to (get_or hs i d) m b ≡ true = search rules in
+          let later : ElsewhereFrom m b (i + 1) hs = search rules in
+          newest_at m b hs i within hit later
+    ] refl

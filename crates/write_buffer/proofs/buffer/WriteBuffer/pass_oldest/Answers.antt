@@ -1,6 +1,5 @@
-use Rattle.std.proofs.Common.{◌<◌, length, vec_items, sym, refl, ap, ◌∙◌, arith}
+use Rattle.std.proofs.Common.{◌<◌, length, vec_items, sym, refl, arith}
 use Rattle.std.specs.List.{remove}
-use Rattle.std.specs.Result.{result_err}
 use Rattle.write_buffer.proofs.Orders.{first_out, oldest_gone, oldest_kept}
 use Rattle.write_buffer.proofs.Passed.{gone_fewer, kept_cut}
 use Rattle.write_buffer.proofs.buffer.WriteBuffer.pass_oldest.Goals as goal
@@ -18,11 +17,10 @@ returns-then-not-powered g c =
     let first = first_out hs later h some c.index.ensures refl in
     let down = sym c.if-not-powered.ensures in
     let cut = kept_cut h (mean w.below) (mean t) c.requires.on hs later r first c.store-answer.ensures.means down in
-    let told = c.err.ensures.value ∙ ap result_err cut.1 in
     record {
-      passes = oldest_kept mean g.S.MemberStore.storing h w.below t r c.store-answer.ensures.means c.store-answer.ensures.own hs hs later c.err.result cut.0 first refl down cut.1 c.err.ensures.value;
-      means = simp told (cut.2, cut.3);
-      len = simp told;
+      passes = oldest_kept mean g.S.MemberStore.storing h w.below t r c.store-answer.ensures.means c.store-answer.ensures.own hs later cut.0 first down cut.1;
+      means = simp cut.1 (cut.2, cut.3);
+      len = simp cut.1;
     }
 
 pub returns : goal.returns
