@@ -89,6 +89,7 @@ pub fn missing_block(others: &[[u8; 512]], into: &mut [u8]) -> Result<(), Refusa
 
 /// The parity of blocks that lie one after the other. Answers whether it was worked out: there are 2 to 7 whole blocks and
 /// the buffer has the length of one. Otherwise the buffer is as it was.
+// Kept: a `bool` and no `Result`, since the C interface answers one.
 pub fn dustercyan_parity(blocks: &[u8], into: &mut [u8]) -> bool
     ensures { FlatGives blocks.now into.old result into.new }
 {

@@ -100,6 +100,7 @@ impl StripeSet {
         let mut list = other.as_slice();
         let mut items = [0; MOST];
         let mut len = 0;
+        // Kept: `len` is the length of the set that fills, and no place in the lists: what is left of those ends the loop.
         while let Some((stripe, left, right)) = split_least(own, list) {
             if len == MOST {
                 return None;

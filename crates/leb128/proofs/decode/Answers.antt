@@ -18,16 +18,11 @@ above_limit n e h = grind (arith, nat_tests)
 below_limit_ok : (n v : ℕ) → Ok v ≡ limit n → (v ≡ n) × (n < 4294967296)
 below_limit_ok n v h = grind (arith, nat_tests)
 
-pub returns-then-group-eq0 : goal.returns-then-group-eq0
-returns-then-group-eq0 c =
+pub returns-then-group-eq0-clause-value : goal.returns-then-group-eq0-clause-value
+returns-then-group-eq0-clause-value c =
     let b = get_or c.args.bytes.now c.loop-i.i 0 in
-    record {
-      value =
-          too_long c.loop-i.i (b % 128) _ c.if-i-gt0.true (omega (arith, and_mask b 7))
-          ∙ sym (turn_last c.args.bytes.now c.loop-i.i c.loop-i.n (omega arith) c.loop-i-test.true (low_byte b (omega arith) c.if-b-eq0.true) c.loop-i.invariant.3);
-      inside = tt;
-      shortest = tt;
-    }
+    too_long c.loop-i.i (b % 128) _ c.if-i-gt0.true (omega (arith, and_mask b 7))
+    ∙ sym (turn_last c.args.bytes.now c.loop-i.i c.loop-i.n (omega arith) c.loop-i-test.true (low_byte b (omega arith) c.if-b-eq0.true) c.loop-i.invariant.3)
 
 pub returns-in_err-value-clause-value : goal.returns-in_err-value-clause-value
 returns-in_err-value-clause-value c =
@@ -59,14 +54,10 @@ returns-then-b-eq0 c =
       shortest = rw (q.0, p) (back bs (number n (i + 1)) (below_more _ i c.loop-i.invariant.4 here) (sym e));
     }
 
-pub returns-then-i-eq-LAST : goal.returns-then-i-eq-LAST
-returns-then-i-eq-LAST c =
+pub returns-then-i-eq-LAST-clause-value : goal.returns-then-i-eq-LAST-clause-value
+returns-then-i-eq-LAST-clause-value c =
     let b = get_or c.args.bytes.now c.loop-i.i 0 in
-    record {
-      value = sixth c.args.bytes.now c.loop-i.i c.loop-i.n c.if-i-eq-LAST.true c.loop-i-test.true (omega (arith, top_bit b)) (omega arith) c.loop-i.invariant.3;
-      inside = tt;
-      shortest = tt;
-    }
+    sixth c.args.bytes.now c.loop-i.i c.loop-i.n c.if-i-eq-LAST.true c.loop-i-test.true (omega (arith, top_bit b)) (omega arith) c.loop-i.invariant.3
 
 pub loop-i-preserved : goal.loop-i-preserved
 loop-i-preserved c =
@@ -80,9 +71,5 @@ loop-i-preserved c =
       below_more _ c.loop-i.i c.loop-i.invariant.4 here,
     )
 
-pub returns : goal.returns
-returns c = record {
-  value = ended c.args.bytes.now c.loop-i.i c.loop-i.n c.loop-i.invariant.0 c.loop-i-test.false c.loop-i.invariant.3;
-  inside = tt;
-  shortest = tt;
-}
+pub returns-clause-value : goal.returns-clause-value
+returns-clause-value c = ended c.args.bytes.now c.loop-i.i c.loop-i.n c.loop-i.invariant.0 c.loop-i-test.false c.loop-i.invariant.3

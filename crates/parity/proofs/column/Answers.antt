@@ -1,4 +1,4 @@
-use Rattle.std.proofs.Common.{◌≡◌, ℕ, ◌+◌, ◌-◌, List, [], get_or, take, drop, sym, ap, ◌∙◌, arith, rules}
+use Rattle.std.proofs.Common.{◌≡◌, ℕ, ◌+◌, ◌-◌, List, [], get_or, take, drop, sym, ap, ◌∙◌, arith}
 use lib.Lanes.{fold_l, chunk}
 use Rattle.std.proofs.lemmas.List.{at_drop_all, take-take}
 use Rattle.parity.specs.Xor.{xored}
@@ -12,8 +12,5 @@ loop-block-preserved c =
     let m = fold_more {A = List ℕ} {B = List ℕ} (λ a block. xored a (chunk c.args.at 64 block)) c.loop-block.sum c.args.blocks.now c.loop-block.block-index [] c.loop-block-test.true in
     ap (λ (v : List ℕ). fold_l (λ a block. xored a (chunk c.args.at 64 block)) (xored c.loop-block.sum v) (drop (c.loop-block.block-index + 1) c.args.blocks.now)) t ∙ sym m ∙ c.loop-block.invariant
 
-pub returns : goal.returns
-returns c = record {
-  value = sym (at_drop_all {X = List ℕ} (fold_l (λ a block. xored a (chunk c.args.at 64 block)) c.loop-block.sum) c.args.blocks.now c.loop-block.block-index c.loop-block-test.false) ∙ c.loop-block.invariant;
-  len = search rules;
-}
+pub returns-clause-value : goal.returns-clause-value
+returns-clause-value c = sym (at_drop_all {X = List ℕ} (fold_l (λ a block. xored a (chunk c.args.at 64 block)) c.loop-block.sum) c.args.blocks.now c.loop-block.block-index c.loop-block-test.false) ∙ c.loop-block.invariant
