@@ -1,8 +1,8 @@
 // The script: 24 stores with two barriers among them, and what is known of it after a cut.
 #![tactic(auto)]
 
-ghost use Rattle.std.specs.Prelude.{◌≡◌, ◌≤◌, IfOk};
-ghost use Rattle.cut_script.specs.Account.{Accounted, FirstBytes};
+ghost use Rattle.std.specs.Prelude.{◌≡◌, ◌/◌, ◌%◌, ◌≤◌, IfOk};
+ghost use Rattle.cut_script.specs.Account.{at, Accounted, FirstBytes};
 ghost use Rattle.cut_script.specs.Script.{place as place_of, barrier_after, LastStore};
 
 use block_address::Address;
@@ -36,16 +36,22 @@ pub struct Progress {
     ghost before: { barred ≤ made },
 }
 
-/// The block of a store: triangular numbers, which come to a block again after few or many stores.
-pub fn place_of(store: u8) -> Place
-    ensures { result ≡ place_of store }
+// The block of a number: member after member, and then the next block of each.
+fn numbered(number: usize) -> Address
+    ensures { result ≡ at (number % 4) (number / 4) }
 {
-    let n = usize::from(store);
-    let number = n * (n + 1) / 2 % (MEMBERS * BLOCKS);
     Address {
         member: number % MEMBERS,
         block: number / MEMBERS,
     }
+}
+
+/// The block of a store: triangular numbers, which come to a block again after few or many stores.
+pub fn place_of(store: u8) -> Address
+    ensures { result ≡ place_of store }
+{
+    let n = usize::from(store);
+    numbered(n * (n + 1) / 2 % (MEMBERS * BLOCKS))
 }
 
 // Does a barrier follow the store?
@@ -60,7 +66,7 @@ pub fn run<S: MemberStore>(store: &mut S) -> Progress
     ensures { Accounted (S.MemberStore.meaning store.old) result.made result.barred (S.MemberStore.meaning store.new) }
 {
     let mut barred = 0;
-    for number in 1..STORES + 1 {
+    for number in 1..=STORES {
         let place = place_of(number);
         if let Err(e) = store.store(place, &[number; BLOCK_BYTES]) {
             return Progress {
@@ -91,6 +97,7 @@ pub fn run<S: MemberStore>(store: &mut S) -> Progress
 pub fn last_store(place: Address, count: u8) -> u8
     ensures { LastStore place count result }
 {
+    // Kept: of `(1..=count).rev().find(..)` the proof doesn't close, for want of a law of such a range taken from behind.
     let mut last = 0;
     for number in 1..=count {
         if place_of(number) == place {
@@ -105,16 +112,10 @@ pub fn standing<S: MemberStore>(store: &mut S) -> Result<[u8; 8], Refusal>
     ensures { IfOk result (λ v. FirstBytes (S.MemberStore.meaning store.old) 8 v) }
 {
     let mut stands = [0u8; 8];
-    for number in 0..MEMBERS * BLOCKS {
+    for (number, first) in stands.iter_mut().enumerate() {
         let mut into = [0u8; BLOCK_BYTES];
-        store.read(
-            Address {
-                member: number % MEMBERS,
-                block: number / MEMBERS,
-            },
-            &mut into,
-        )?;
-        stands[number] = into[0];
+        store.read(numbered(number), &mut into)?;
+        *first = into[0];
     }
     Ok(stands)
 }

@@ -3,10 +3,10 @@
 
 #[cfg(test)]
 mod tests {
+    use block_address::Address;
     use fuse::Fuse;
     use member_store::MemberStore;
-    use block_address::Address;
-use member_store::refusal::Refusal;
+    use member_store::refusal::Refusal;
     use memory_store::memory::MemoryStore;
     use remote_fuse::RemoteFuse;
     use remote_fuse::switch::FuseSwitch;
@@ -20,21 +20,27 @@ use member_store::refusal::Refusal;
     // 2 members with 10 blocks of zeros each.
     fn zeros(heap: Global) -> Result<MemoryStore, Fail> {
         let bytes = vec![in heap; 0u8; 10240]?;
-        match MemoryStore::new(2, 10, bytes) {
-            Ok(memory) => Ok(memory),
-            Err(_) => Err(Fail::new("no memory store")),
+        MemoryStore::new(2, 10, bytes).map_err(|_| Fail::new("no memory store"))
+    }
+
+    fn buffered<S: MemberStore + Drop>(heap: Global, below: S) -> Result<WriteBuffer<S>, Fail> {
+        WriteBuffer::new(heap, below).map_err(|_| Fail::new("no write buffer"))
+    }
+
+    // The block of the script with this number.
+    fn place(block: u8) -> Address {
+        Address {
+            member: 0,
+            block: usize::from(block),
         }
     }
 
     // Fills block after block and then bars, until a refusal.
-    fn script<S: MemberStore>(store: &mut S) -> Option<Refusal> {
+    fn script<S: MemberStore>(store: &mut S) -> Result<(), Refusal> {
         for block in 0..STORES {
-            let answer = store.store(0, usize::from(block), &[block + 1; 512]);
-            if answer.is_err() {
-                return answer.err();
-            }
+            store.store(place(block), &[block + 1; 512])?;
         }
-        store.barrier().err()
+        store.barrier()
     }
 
     // How many of the stores stand: the first ones, all others being lost.
@@ -42,7 +48,7 @@ use member_store::refusal::Refusal;
         let mut count = 0;
         for block in 0..STORES {
             let mut into = [99u8; 512];
-            let _ = store.read(0, usize::from(block), &mut into);
+            let _ = store.read(place(block), &mut into);
             if into[0] == block + 1 && into[511] == block + 1 && count == block {
                 count = block + 1;
             } else if into[0] != 0 || into[511] != 0 {
@@ -52,53 +58,42 @@ use member_store::refusal::Refusal;
         Some(count)
     }
 
-    fn no_power_at(block: u8) -> Option<Refusal> {
-        Some(Refusal::PowerOff(Some(Address {
-            member: 0,
-            block: usize::from(block),
-        })))
+    fn no_power_at(block: u8) -> Result<(), Refusal> {
+        Err(Refusal::PowerOff(Some(place(block))))
+    }
+
+    // What the script answers, and how many of its stores stand when power is back.
+    fn cut<S: MemberStore + Drop>(mut store: S) -> (Result<(), Refusal>, Option<u8>) {
+        let answer = script(&mut store);
+        store.power_on();
+        (answer, standing(&mut store))
     }
 
     // The disks take `left` stores and barriers.
-    fn cut_below(heap: Global, left: u8) -> Result<(Option<Refusal>, Option<u8>), Fail> {
+    fn cut_below(heap: Global, left: u8) -> Result<(Result<(), Refusal>, Option<u8>), Fail> {
         let fuse = Fuse::new(zeros(heap)?, Some(usize::from(left)));
-        match WriteBuffer::new(heap, fuse) {
-            Ok(buffer) => {
-                let mut store = buffer;
-                let refusal = script(&mut store);
-                store.power_on();
-                Ok((refusal, standing(&mut store)))
-            }
-            Err(_) => Err(Fail::new("no write buffer")),
-        }
+        Ok(cut(buffered(heap, fuse)?))
     }
 
     // The buffer takes `left` stores and barriers.
-    fn cut_above(heap: Global, left: u8) -> Result<(Option<Refusal>, Option<u8>), Fail> {
-        match WriteBuffer::new(heap, zeros(heap)?) {
-            Ok(buffer) => {
-                let mut store = Fuse::new(buffer, Some(usize::from(left)));
-                let refusal = script(&mut store);
-                store.power_on();
-                Ok((refusal, standing(&mut store)))
-            }
-            Err(_) => Err(Fail::new("no write buffer")),
-        }
+    fn cut_above(heap: Global, left: u8) -> Result<(Result<(), Refusal>, Option<u8>), Fail> {
+        let buffer = buffered(heap, zeros(heap)?)?;
+        Ok(cut(Fuse::new(buffer, Some(usize::from(left)))))
     }
 
     // The refusal tells the block that was passed below when power went.
     #[test]
     fn cuts_under_the_buffer(rt: HostRuntime) -> Result<(), Fail> {
         for left in 0..STORES {
-            let (refusal, count) = cut_below(rt.alloc(), left)?;
-            assert!(rt; refusal == no_power_at(left));
+            let (answer, count) = cut_below(rt.alloc(), left)?;
+            assert!(rt; answer == no_power_at(left));
             assert!(rt; count == Some(left));
         }
         let (at_barrier, stood) = cut_below(rt.alloc(), STORES)?;
-        assert!(rt; at_barrier == Some(Refusal::PowerOff(None)));
+        assert!(rt; at_barrier == Err(Refusal::PowerOff(None)));
         assert!(rt; stood == Some(STORES));
-        let (none, all) = cut_below(rt.alloc(), STORES + 1)?;
-        assert!(rt; none.is_none() && all == Some(STORES));
+        let (done, all) = cut_below(rt.alloc(), STORES + 1)?;
+        assert!(rt; done.is_ok() && all == Some(STORES));
         Ok(())
     }
 
@@ -106,12 +101,12 @@ use member_store::refusal::Refusal;
     #[test]
     fn cuts_over_the_buffer(rt: HostRuntime) -> Result<(), Fail> {
         for left in 0..STORES {
-            let (refusal, count) = cut_above(rt.alloc(), left)?;
-            assert!(rt; refusal == no_power_at(left));
+            let (answer, count) = cut_above(rt.alloc(), left)?;
+            assert!(rt; answer == no_power_at(left));
             assert!(rt; count == Some(left.saturating_sub(8)));
         }
-        let (none, all) = cut_above(rt.alloc(), STORES + 1)?;
-        assert!(rt; none.is_none() && all == Some(STORES));
+        let (done, all) = cut_above(rt.alloc(), STORES + 1)?;
+        assert!(rt; done.is_ok() && all == Some(STORES));
         Ok(())
     }
 
@@ -121,18 +116,16 @@ use member_store::refusal::Refusal;
         assert!(rt; script(&mut store) == no_power_at(1));
         assert!(rt; !store.powered());
         let mut into = [7u8; 512];
-        assert!(rt;
-            store.read(1, 2, &mut into)
-                == Err(Refusal::PowerOff(Some(Address {
-                    member: 1,
-                    block: 2,
-                })))
-        );
+        let at = Address {
+            member: 1,
+            block: 2,
+        };
+        assert!(rt; store.read(at, &mut into) == Err(Refusal::PowerOff(Some(at))));
         assert!(rt; into[0] == 7);
         assert!(rt; store.barrier() == Err(Refusal::PowerOff(None)));
         store.power_on();
         assert!(rt; standing(&mut store) == Some(1));
-        assert!(rt; script(&mut store).is_none());
+        assert!(rt; script(&mut store).is_ok());
         Ok(())
     }
 
@@ -148,9 +141,9 @@ use member_store::refusal::Refusal;
             switch.cut_after(0);
             store.power_on();
             assert!(rt; standing(&mut store) == Some(left));
-            assert!(rt; script(&mut store).is_none());
+            assert!(rt; script(&mut store).is_ok());
             switch.cut_after(usize::from(STORES));
-            assert!(rt; script(&mut store) == Some(Refusal::PowerOff(None)));
+            assert!(rt; script(&mut store) == Err(Refusal::PowerOff(None)));
         }
         Ok(())
     }
@@ -159,9 +152,21 @@ use member_store::refusal::Refusal;
     fn refusals_in_order(rt: HostRuntime) -> Result<(), Fail> {
         let mut store = zeros(rt.alloc())?;
         let mut short = [7u8; 511];
-        assert!(rt; store.read(2, 10, &mut short) == Err(Refusal::NoMember(2)));
-        assert!(rt; store.read(1, 10, &mut short) == Err(Refusal::NoBlock(10)));
-        assert!(rt; store.read(1, 9, &mut short) == Err(Refusal::WrongLength(511)));
+        let nowhere = Address {
+            member: 2,
+            block: 10,
+        };
+        assert!(rt; store.read(nowhere, &mut short) == Err(Refusal::NoMember(2)));
+        let past_last = Address {
+            member: 1,
+            block: 10,
+        };
+        assert!(rt; store.read(past_last, &mut short) == Err(Refusal::NoBlock(10)));
+        let last = Address {
+            member: 1,
+            block: 9,
+        };
+        assert!(rt; store.read(last, &mut short) == Err(Refusal::WrongLength(511)));
         assert!(rt; short[0] == 7);
         assert!(rt; Refusal::NoBlock(10).number() == 7 && Refusal::NoBlock(10).place().is_none());
         assert!(rt; Refusal::PowerOff(None).number() == 1);
@@ -173,20 +178,16 @@ use member_store::refusal::Refusal;
     #[test]
     fn bad_counts(rt: HostRuntime) -> Result<(), Fail> {
         for (members, blocks) in [(0, 1), (1, 0), (2, 1), (usize::MAX, usize::MAX)] {
-            match MemoryStore::new(members, blocks, vec![in rt.alloc(); 5u8; 1023]?) {
-                Ok(_) => return Err(Fail::new("made")),
-                Err(e) => {
-                    assert!(rt; e.number() == 2 && e.members == members && e.blocks == blocks);
-                    assert!(rt; e.bytes.len() == 1023);
-                }
-            }
+            let bytes = vec![in rt.alloc(); 5u8; 1023]?;
+            let Err(e) = MemoryStore::new(members, blocks, bytes) else {
+                return Err(Fail::new("made"));
+            };
+            assert!(rt; e.number() == 2 && e.members == members && e.blocks == blocks);
+            assert!(rt; e.bytes.len() == 1023);
         }
-        match MemoryStore::new(1, 1, vec![in rt.alloc(); 5u8; 1023]?) {
-            Ok(memory) => {
-                assert!(rt; memory.into_bytes().len() == 1023);
-                Ok(())
-            },
-            Err(_) => Err(Fail::new("not made")),
-        }
+        let bytes = vec![in rt.alloc(); 5u8; 1023]?;
+        let memory = MemoryStore::new(1, 1, bytes).map_err(|_| Fail::new("not made"))?;
+        assert!(rt; memory.into_bytes().len() == 1023);
+        Ok(())
     }
 }

@@ -64,6 +64,7 @@ impl<S: MemberStore> WriteBuffer<S> {
         self.held.iter().rposition(|store| store.at == at)
     }
 
+    // Kept: this and the next three ask for power in their contracts, since it may go in any of them, so no field tells it.
     // Passes the oldest held store below; where power goes it stays held and the refusal comes up.
     fn pass_oldest(&mut self) -> Result<(), Refusal>
         requires some { 0 < vec_len self.old.held }

@@ -1,4 +1,4 @@
-use Rattle.std.proofs.Common.{◌≡◌, length}
+use Rattle.std.proofs.Common.{◌≡◌}
 use Rattle.cut_script.specs.Account.{FirstBytes}
 use Rattle.cut_script.proofs.standing.Given as goal
 
@@ -6,5 +6,4 @@ use Rattle.cut_script.proofs.standing.Given as goal
 abbrev pub invariant-loop-number : goal.invariant-loop-number
 invariant-loop-number g l =
     (g.S.MemberStore.meaning l.store ≡ g.S.MemberStore.meaning l.initial.store)
-    × (length l.stands ≡ 8)
-    × FirstBytes (g.S.MemberStore.meaning l.initial.store) l.number l.stands
+    × FirstBytes (g.S.MemberStore.meaning l.initial.store) l.number l.first-items
