@@ -3,3 +3,4 @@ pub mod Flag
 pub mod Own
 pub mod Puts
 pub mod Blocks
+pub mod Text

@@ -1,5 +1,5 @@
 -- What a change comes to, accepted and refused; and what may stand, by a list.
-use Rattle.std.proofs.Common.{◌≡◌, List, [], ◌∷◌, map, IfOk, Some, None, Err, Option, Result, refl, ap, inl, inr}
+use Rattle.std.proofs.Common.{◌≡◌, List, [], ◌∷◌, map, IfOk, IsErrAnd, Some, None, Ok, Err, Option, Result, refl, ap, inl, inr}
 use Rattle.member_store.specs.Meaning.{Meaning, In}
 use Rattle.device_calls.specs.Lists.{DeviceCall}
 use Rattle.intent_log.specs.Refusals.{PowerWent}
@@ -7,9 +7,18 @@ use Rattle.intent_log.specs.Calls.{Refused}
 use Rattle.intent_log.specs.Devices.{Makes, MakesChange}
 use Rattle.intent_log.specs.declared.refusal.LogRefusal.{LogRefusal}
 
+-- a refusal that the checks name
+pub refused_by : (c : Option LogRefusal) (e : LogRefusal) (same cut : Type 0) → c ≡ Some e → same → Refused c e same cut
+refused_by c e same cut n h = rw n (refl, h)
+
 -- a refusal with power going
 pub refused_went : (c : Option LogRefusal) (e : LogRefusal) (same cut : Type 0) → c ≡ None → PowerWent e → cut → Refused c e same cut
 refused_went c e same cut n w h = rw n (w, h)
+
+-- what `?` hands up, where the error that it makes is known
+pub handed_up : {T E : Type 0} (r : Result T E) (e : E) → IsErrAnd r (λ d. d ≡ e) → r ≡ Err e
+handed_up (Ok x) e h = elim h [ ]
+handed_up (Err d) e h = ap Err h
 
 module _ {U : Type 0} where
   pub makes_passed : (checks : Option LogRefusal) (calls : List DeviceCall) (after : Type 0) (s : Meaning) (r : Result U LogRefusal) (t : Meaning) → checks ≡ None → Makes calls s r t → IfOk r (λ _. after) → MakesChange checks calls after s r t

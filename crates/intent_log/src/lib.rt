@@ -1,16 +1,20 @@
 //! Intent logs: the interface, what its calls mean, and why they are refused.
 #![tactic(auto)]
 
-ghost use Rattle.std.specs.Prelude.{◌≡◌, ℕ, true, false, List, Result as Answer, OnOk};
+ghost use Rattle.std.specs.Prelude.{◌≡◌, ℕ, true, false, ◌&&◌, List, is_some, None, Result as Answer, OnOk};
 ghost use Rattle.intent_log.specs.declared.refusal.LogRefusal.{LogRefusal as Cause};
 ghost use Rattle.intent_log.specs.Meaning.{Meaning, Standing, MayStand, listed};
 ghost use Rattle.intent_log.specs.Refusals.{number as number_of, layer as layer_of, place as place_of};
+ghost use Rattle.intent_log.specs.Checks.{Powered, TakesList};
 ghost use Rattle.intent_log.specs.Calls.{Answers, FindsNext, Marks, Freshens, Clears, Blanks, PowersOn};
 
 pub mod refusal;
+pub mod state;
 
 use block_address::Address;
+use member_store::MemberStore;
 use refusal::{Layer, LogRefusal};
+use state::LogState;
 use stripe_set::is_rising;
 
 /// The most stripes in a list that is marked.
@@ -38,12 +42,12 @@ impl LogRefusal {
     {
         match self {
             LogRefusal::Store(_) => Layer::LogStore,
-            LogRefusal::Off => Layer::Log,
-            LogRefusal::TooSmall(_, _) => Layer::Log,
-            LogRefusal::NoRecord => Layer::Log,
-            LogRefusal::WrongList(_) => Layer::Log,
-            LogRefusal::Spent => Layer::Log,
-            LogRefusal::DoesNotFit(_) => Layer::Log,
+            LogRefusal::Off
+            | LogRefusal::TooSmall(_, _)
+            | LogRefusal::NoRecord
+            | LogRefusal::WrongList(_)
+            | LogRefusal::Spent
+            | LogRefusal::DoesNotFit(_) => Layer::Log,
         }
     }
 
@@ -53,12 +57,12 @@ impl LogRefusal {
     {
         match self {
             LogRefusal::Store(refusal) => refusal.place(),
-            LogRefusal::Off => None,
-            LogRefusal::TooSmall(_, _) => None,
-            LogRefusal::NoRecord => None,
-            LogRefusal::WrongList(_) => None,
-            LogRefusal::Spent => None,
-            LogRefusal::DoesNotFit(_) => None,
+            LogRefusal::Off
+            | LogRefusal::TooSmall(_, _)
+            | LogRefusal::NoRecord
+            | LogRefusal::WrongList(_)
+            | LogRefusal::Spent
+            | LogRefusal::DoesNotFit(_) => None,
         }
     }
 }
@@ -67,7 +71,45 @@ impl LogRefusal {
 pub fn is_list(list: &[u32]) -> bool
     ensures { result ≡ listed list.now }
 {
-    list.len() >= 1 && list.len() <= LONGEST_LIST && is_rising(list)
+    (1..=LONGEST_LIST).contains(&list.len()) && is_rising(list)
+}
+
+impl<S: MemberStore, R> LogState<S, R> {
+    /// What a log on a store keeps until its first power-on.
+    pub fn new(store: S) -> LogState<S, R>
+        ensures { (result.store ≡ store) × (result.awake ≡ false) × (result.standing ≡ None) }
+    {
+        LogState {
+            store,
+            awake: false,
+            standing: None,
+        }
+    }
+
+    /// Refuses while the log is off.
+    pub fn check_power(&self) -> Result<(), LogRefusal>
+        ensures { Powered (self.now.awake && (S.MemberStore.meaning self.now.store).on) result }
+    {
+        if self.awake && self.store.powered() {
+            Ok(())
+        } else {
+            Err(LogRefusal::Off)
+        }
+    }
+
+    /// The checks that a log makes before it takes a list: power, a record, the list itself.
+    pub fn check_list(&self, list: &[u32]) -> Result<(), LogRefusal>
+        ensures { TakesList (self.now.awake && (S.MemberStore.meaning self.now.store).on) (is_some self.now.standing) list.now result }
+    {
+        self.check_power()?;
+        if self.standing.is_none() {
+            return Err(LogRefusal::NoRecord);
+        }
+        if !is_list(list) {
+            return Err(LogRefusal::WrongList(list.len()));
+        }
+        Ok(())
+    }
 }
 
 /// A log of the stripes that may be written to: it names them before they are, so that a resync finds them after a cut.

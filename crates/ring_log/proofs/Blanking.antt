@@ -257,27 +257,36 @@ Ends a a' s x t =
     results.MatchResult x (λ _. (t.on ≡ true) × (SameCounts s t × Steady s.members s.blocks t None))
     (λ e. PowerWent e × CutShort (λ c. (c ≡ standing_of (stands_in s.members s.blocks s)) ⊎ ((c.stands ≡ false) × NamesNothing c)) (ring a s) (ring a' t))
 
-module _ (s t : Meaning) (a a' : Bool) (b b' : Option (ℕ × Contents)) (l : 1 ≤ s.members) (law : CurrentStands t) (on : (a && s.on) ≡ true) (aw : a' ≡ a) (h : Sound a s b) (x : Result (Unit {0}) LogRefusal) (calls : Makes (blank_calls s.members s.blocks b) s x t) where
+-- A blank of a log that is on: the store below, whether it is awake and what it keeps in memory, before and after.
+pub record Blank (s : Meaning) (a : Bool) (b : Option (ℕ × Contents)) (x : Result (Unit {0}) LogRefusal) (t : Meaning) (a' : Bool) (b' : Option (ℕ × Contents)) : Type 0 where
+  pub some : 1 ≤ s.members
+  pub law : CurrentStands t
+  pub on : (a && s.on) ≡ true
+  pub awake : a' ≡ a
+  pub calls : Makes (blank_calls s.members s.blocks b) s x t
+  pub memory : IfOk x (λ _. b' ≡ None)
+
+module _ {s t : Meaning} {a a' : Bool} {b b' : Option (ℕ × Contents)} {x : Result (Unit {0}) LogRefusal} (p : Blank s a b x t a' b') (h : Sound a s b) where
   powered : s.on ≡ true
-  powered = (and_parts a s.on on).1
+  powered = (and_parts a s.on p.on).1
 
   ends_by : (q : Result (Unit {0}) LogRefusal) → Makes (blank_calls s.members s.blocks b) s q t → Ends a a' s q t
-  ends_by (Ok u) d = blank_done s b a a' l powered (h on) t d
-  ends_by (Err e) d = let q = blank_cut s b a a' l powered (h on) d.0 t d.1.1 law in (subst PowerWent (sym d.1.0) q.0, q.1)
+  ends_by (Ok u) d = blank_done s b a a' p.some powered (h p.on) t d
+  ends_by (Err e) d = let q = blank_cut s b a a' p.some powered (h p.on) d.0 t d.1.1 p.law in (subst PowerWent (sym d.1.0) q.0, q.1)
 
   sound_by : (q : Result (Unit {0}) LogRefusal) → Ends a a' s q t → IfOk q (λ _. b' ≡ None) → Sound a' t b'
   sound_by (Ok u) w m = λ _. steady_same s t b' w.1.0 (subst (Steady s.members s.blocks t) (sym m) w.1.1)
   sound_by (Err e) w m = λ o. absurd (both_ways (a' && t.on) w.1.off o)
 
-  pub blank_sound : IfOk x (λ _. b' ≡ None) → Sound a' t b'
-  blank_sound m = sound_by x (ends_by x calls) m
+  pub blank_sound : Sound a' t b'
+  blank_sound = sound_by x (ends_by x p.calls) p.memory
 
   means_by : (q : Result (Unit {0}) LogRefusal) → Ends a a' s q t → Blanks (ring a s) q (ring a' t)
-  means_by (Ok u) w = (simp on, blank_whole s b (slot_or (slots s.members s.blocks) b) l powered (h on) refl a a' t (aw ∙ (and_parts a s.on on).0) w.0 w.1.0 law w.1.1)
-  means_by (Err e) w = refused_went (power_checks (ring a s)) e (ring a' t ≡ ring a s) _ (simp on) w.0 w.1
+  means_by (Ok u) w = (simp p.on, blank_whole s b (slot_or (slots s.members s.blocks) b) p.some powered (h p.on) refl a a' t (p.awake ∙ (and_parts a s.on p.on).0) w.0 w.1.0 p.law w.1.1)
+  means_by (Err e) w = refused_went (power_checks (ring a s)) e (ring a' t ≡ ring a s) _ (simp p.on) w.0 w.1
 
   pub blank_means : Blanks (ring a s) x (ring a' t)
-  blank_means = means_by x (ends_by x calls)
+  blank_means = means_by x (ends_by x p.calls)
 
   stands_by : (q : Result (Unit {0}) LogRefusal) → Ends a a' s q t → IfOk q (λ _. standing t ≡ None)
   stands_by (Ok u) w = sym (steady_same s t None w.1.0 w.1.1).same
@@ -285,5 +294,5 @@ module _ (s t : Meaning) (a a' : Bool) (b b' : Option (ℕ × Contents)) (l : 1 
 
   pub blank_own : OwnBlank a s x t
   blank_own =
-      subst (λ (z : Option (ℕ × Contents)). MakesChange (power_checks (ring a s)) (blank_calls s.members s.blocks z) (standing t ≡ None) s x t) (h on).same
-      (makes_passed (power_checks (ring a s)) (blank_calls s.members s.blocks b) (standing t ≡ None) s x t (simp on) calls (stands_by x (ends_by x calls)))
+      subst (λ (z : Option (ℕ × Contents)). MakesChange (power_checks (ring a s)) (blank_calls s.members s.blocks z) (standing t ≡ None) s x t) (h p.on).same
+      (makes_passed (power_checks (ring a s)) (blank_calls s.members s.blocks b) (standing t ≡ None) s x t (simp p.on) p.calls (stands_by x (ends_by x p.calls)))

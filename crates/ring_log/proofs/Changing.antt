@@ -1,7 +1,6 @@
 -- What a change that ends with a put comes to.
 use Rattle.std.proofs.Common.{◌≡◌, ℕ, ◌+◌, ◌<◌, ◌≤◌, Bool, true, false, ◌&&◌, eqb, leb, List, [], ◌∷◌, length, is_some, IfOk, Some, None, Ok, Err, Option, Result, sym, refl, ap, ◌∙◌, subst, inl, inr, arith}
-use Rattle.std.proofs.lemmas.Bool.{and_parts, and_right, both_ways, le-leb, lt-leb, cond-true, cond-false, eq-eqb, ne_eqb, or_left, or_right, false≢true}
-use Rattle.std.specs.Result as results
+use Rattle.std.proofs.lemmas.Bool.{and_parts, and_right, both_ways, le-leb, lt-leb, cond-false, eq-eqb, ne_eqb, or_left, or_right, false≢true}
 use Rattle.member_store.specs.Meaning.{Meaning, In}
 use Rattle.device_calls.specs.Lists.{DeviceCall}
 use Rattle.device_calls.proofs.Refusals.{CurrentStands}
@@ -9,11 +8,9 @@ use Rattle.stripe_set.specs.Named.{named}
 use Rattle.stripe_set.specs.Union.{merged}
 use Rattle.stripe_set.proofs.Lists.{merged_both}
 use Rattle.record.specs.Contents.{Contents}
-use Rattle.record.specs.Form.{block}
-use Rattle.record.specs.Reading.{recorded}
 use Rattle.intent_log.specs.Meaning.{Standing, listed}
-use Rattle.intent_log.specs.Calls.{Refused, Changes, Marks, Freshens, Clears, Includes, NamesList, NamesNothing, mark_checks, fresh_checks, power_checks}
-use Rattle.intent_log.specs.Devices.{Makes, MakesChange}
+use Rattle.intent_log.specs.Calls.{Changes, Marks, Freshens, Clears, Includes, NamesList, NamesNothing, mark_checks, fresh_checks, power_checks}
+use Rattle.intent_log.specs.Devices.{MakesChange}
 use Rattle.intent_log.specs.declared.refusal.LogRefusal.{LogRefusal}
 use Rattle.intent_log.specs.declared.refusal.LogRefusal.TheVariants.{DoesNotFit}
 use Rattle.intent_log.proofs.Changes.{refused_went, makes_passed}
@@ -22,44 +19,37 @@ use Rattle.ring_log.specs.Ring.{standing_of, stands_in, ring, Steady, Sound}
 use Rattle.ring_log.specs.declared.ring.StandingRecord.{StandingRecord}
 use Rattle.ring_log.specs.Kept.{kept}
 use Rattle.ring_log.specs.Own.{contents_of, put_record, put_calls, next_record, clear_calls, cleared, standing, OwnClear}
-use Rattle.ring_log.specs.Puts.{Puts, puts, cut_short, completed, steady_same, steady_single}
+use Rattle.ring_log.specs.Puts.{Puts, Put, Remembers, puts, cut_short, completed, steady_same, steady_single}
 
 pub named_in : (s : ℕ) (ss : List ℕ) → In s ss → named s ss ≡ true
 named_in s [] h = elim h [ ]
 named_in s (x ∷ xs) (inl e) = or_left _ _ (eq-eqb s x e)
 named_in s (x ∷ xs) (inr h) = or_right (eqb s x) _ (named_in s xs h)
 
--- what is kept in memory after a put of r
-abbrev pub Remembers : Meaning → Contents → Option (ℕ × Contents) → Result (Unit {0}) LogRefusal → Option (ℕ × Contents) → Type 0
-Remembers s r old q new = results.MatchResult q (λ _. new ≡ put_record s.members s.blocks r) (λ _. new ≡ old)
-
-module _ (s t : Meaning) (a a' : Bool) (r : Contents) (b b' : Option (ℕ × Contents)) (l : 1 ≤ s.members) (law : CurrentStands t) (on : (a && s.on) ≡ true) (aw : a' ≡ a) (h : Sound a s b) (up : version_of b < r.version) (valid : recorded (block r) ≡ Some r) (x : Result (Unit {0}) LogRefusal) (calls : Makes (put_calls s.members s.blocks r) s x t) where
+module _ {s t : Meaning} {a a' : Bool} {r : Contents} {b b' : Option (ℕ × Contents)} {x : Result (Unit {0}) LogRefusal} (p : Put s a b r x t a' b') (h : Sound a s b) (up : version_of b < r.version) where
   abbrev old : Standing
   old = standing_of (stands_in s.members s.blocks s)
 
   abbrev new : Standing
   new = standing_of (put_record s.members s.blocks r)
 
-  powered : s.on ≡ true
-  powered = (and_parts a s.on on).1
-
   same : b ≡ stands_in s.members s.blocks s
-  same = (h on).same
+  same = (h p.on).same
 
   done : Puts s r x t
-  done = puts s r b l powered (h on) valid up x t calls
+  done = puts s r b p.some (and_parts a s.on p.on).1 (h p.on) p.valid up x t p.calls
 
   sound_by : (q : Result (Unit {0}) LogRefusal) → Puts s r q t → Remembers s r b q b' → Sound a' t b'
   sound_by (Ok u) w m = λ _. steady_same s t b' w.sized (subst (Steady s.members s.blocks t) (sym m) w.steady)
   sound_by (Err e) w m = λ o. absurd (both_ways (a' && t.on) (and_right a' t.on w.1.off) o)
 
-  pub sound_after : Remembers s r b x b' → Sound a' t b'
-  sound_after m = sound_by x done m
+  pub sound_after : Sound a' t b'
+  sound_after = sound_by x done p.memory
 
   changes_by : (checks : Option LogRefusal) (P Q : Standing → Type 0) (q : Result (Unit {0}) LogRefusal) → Puts s r q t → checks ≡ None → P new → Q old → Q new → Changes checks P Q (ring a s) q (ring a' t)
-  changes_by checks P Q (Ok u) w n pn qo qn = (n, completed s t a a' r l law P (aw ∙ (and_parts a s.on on).0) w pn)
+  changes_by checks P Q (Ok u) w n pn qo qn = (n, completed s t a a' r p.some p.law P (p.awake ∙ (and_parts a s.on p.on).0) w pn)
   changes_by checks P Q (Err e) w n pn qo qn =
-      refused_went checks e (ring a' t ≡ ring a s) _ n w.0 (cut_short s t a a' r l law Q w.1 qo qn)
+      refused_went checks e (ring a' t ≡ ring a s) _ n w.0 (cut_short s t a a' r p.some p.law Q w.1 qo qn)
 
   stands_by : (q : Result (Unit {0}) LogRefusal) → Puts s r q t → IfOk q (λ _. standing t ≡ put_record s.members s.blocks r)
   stands_by (Ok u) w = sym (steady_same s t _ w.sized w.steady).same
@@ -69,7 +59,7 @@ module _ (s t : Meaning) (a a' : Bool) (r : Contents) (b b' : Option (ℕ × Con
   pub own : (checks : Option LogRefusal) (ss : List ℕ) → checks ≡ None → r ≡ next_record b ss → MakesChange checks (put_calls s.members s.blocks (next_record (standing s) ss)) (standing t ≡ put_record s.members s.blocks (next_record (standing s) ss)) s x t
   own checks ss n e =
       subst (λ (q : Contents). MakesChange checks (put_calls s.members s.blocks q) (standing t ≡ put_record s.members s.blocks q) s x t) (e ∙ ap (λ (z : Option (ℕ × Contents)). next_record z ss) same)
-      (makes_passed checks (put_calls s.members s.blocks r) (standing t ≡ put_record s.members s.blocks r) s x t n calls (stands_by x done))
+      (makes_passed checks (put_calls s.members s.blocks r) (standing t ≡ put_record s.members s.blocks r) s x t n p.calls (stands_by x done))
 
   module _ (w : List ℕ) (pr : present b ≡ true) (li : listed w ≡ true) (sp : version_of b < 4294967294) where
     spent : leb 4294967294 (version_of b) ≡ false
@@ -79,10 +69,10 @@ module _ (s t : Meaning) (a a' : Bool) (r : Contents) (b b' : Option (ℕ × Con
     po = ap present (sym same) ∙ pr
 
     pub mark_passes : length (merged (stripes_of b) w) ≤ 64 → mark_checks (ring a s) w ≡ None
-    mark_passes fe = let fits : leb (length (merged (stripes_of b) w)) 64 ≡ true = le-leb _ 64 fe in rw (← same) (simp (on, pr, li, spent, fits))
+    mark_passes fe = let fits : leb (length (merged (stripes_of b) w)) 64 ≡ true = le-leb _ 64 fe in rw (← same) (simp (p.on, pr, li, spent, fits))
 
     pub fresh_passes : fresh_checks (ring a s) w ≡ None
-    fresh_passes = rw (← same) (simp (on, pr, li, spent))
+    fresh_passes = rw (← same) (simp (p.on, pr, li, spent))
 
     pub marks : r.stripes ≡ merged (stripes_of b) w → length (merged (stripes_of b) w) ≤ 64 → Marks w (ring a s) x (ring a' t)
     marks me fe =
@@ -97,7 +87,7 @@ module _ (s t : Meaning) (a a' : Bool) (r : Contents) (b b' : Option (ℕ × Con
         (refl, λ i k. ap (named i) me ∙ named_in i w k) po refl
 
   pub clear_passes : power_checks (ring a s) ≡ None
-  clear_passes = simp on
+  clear_passes = simp p.on
 
   pub clears : r.stripes ≡ [] → Clears (ring a s) x (ring a' t)
   clears me =
@@ -120,9 +110,6 @@ cleared_same s a b l law on h pr em =
 
 -- ---- refusals, and clears of each kind
 
-pub refused_by : (c : Option LogRefusal) (e : LogRefusal) (same cut : Type 0) → c ≡ Some e → same → Refused c e same cut
-refused_by c e same cut n h = rw n (refl, h)
-
 pub does_not_fit : (s : Meaning) (a : Bool) (b : Option (ℕ × Contents)) (w : List ℕ) → (a && s.on) ≡ true → b ≡ standing s → present b ≡ true → listed w ≡ true → version_of b < 4294967294 → leb (length (merged (stripes_of b) w)) 64 ≡ false → mark_checks (ring a s) w ≡ Some (DoesNotFit (length w))
 does_not_fit s a b w on same pr li sp fe =
     let spent : leb 4294967294 (version_of b) ≡ false = lt-leb 4294967294 (version_of b) sp in
@@ -139,38 +126,19 @@ none_kept (Some x) e = absurd (false≢true (sym e))
 pub next_is : (b : Option (ℕ × Contents)) (v : ℕ) (ss zs : List ℕ) → v ≡ version_of b → ss ≡ zs → contents_of (v + 1) ss ≡ next_record b zs
 next_is b v ss zs e f = ap (λ (n : ℕ). contents_of (n + 1) ss) e ∙ ap (contents_of (version_of b + 1)) f
 
-module _ (m n : ℕ) (x : Option (ℕ × Contents)) where
-  abbrev pub PutsNext : Type 0
-  PutsNext = (clear_calls m n x ≡ put_calls m n (next_record x [])) × (cleared m n x ≡ put_record m n (next_record x []))
+-- a clear that stores a record
+abbrev pub PutsNext : ℕ → ℕ → Option (ℕ × Contents) → Type 0
+PutsNext m n x = (clear_calls m n x ≡ put_calls m n (next_record x [])) × (cleared m n x ≡ put_record m n (next_record x []))
 
-  pub clear_nothing : (y : ℕ × Contents) → x ≡ Some y → length y.1.stripes ≡ 0 → (clear_calls m n x ≡ []) × (cleared m n x ≡ x)
-  clear_nothing y e z =
-      let q : eqb (length y.1.stripes) 0 ≡ true = eq-eqb (length y.1.stripes) 0 z in
-      (ap (clear_calls m n) e ∙ cond-true (eqb (length y.1.stripes) 0) _ _ q, ap (cleared m n) e ∙ cond-true (eqb (length y.1.stripes) 0) _ _ q ∙ sym e)
-
-  pub clear_first : x ≡ None → PutsNext
-  clear_first e =
-      (ap (clear_calls m n) e ∙ sym (ap (λ (z : Option (ℕ × Contents)). put_calls m n (next_record z [])) e), ap (cleared m n) e ∙ sym (ap (λ (z : Option (ℕ × Contents)). put_record m n (next_record z [])) e))
-
-  pub clear_next : (y : ℕ × Contents) → x ≡ Some y → (length y.1.stripes ≡ 0 → ⊥) → PutsNext
-  clear_next y e z =
-      let q : eqb (length y.1.stripes) 0 ≡ false = ne_eqb (length y.1.stripes) 0 z in (
-        ap (clear_calls m n) e ∙ cond-false (eqb (length y.1.stripes) 0) _ _ q ∙ sym (ap (λ (z : Option (ℕ × Contents)). put_calls m n (next_record z [])) e),
-        ap (cleared m n) e ∙ cond-false (eqb (length y.1.stripes) 0) _ _ q ∙ sym (ap (λ (z : Option (ℕ × Contents)). put_record m n (next_record z [])) e),
-      )
+pub puts_next : (m n : ℕ) (x : Option (ℕ × Contents)) → (present x ≡ true → length (stripes_of x) ≡ 0 → ⊥) → PutsNext m n x
+puts_next m n None h = (refl, refl)
+puts_next m n (Some y) h =
+    let q : eqb (length y.1.stripes) 0 ≡ false = ne_eqb (length y.1.stripes) 0 (h refl) in (cond-false (eqb (length y.1.stripes) 0) _ _ q, cond-false (eqb (length y.1.stripes) 0) _ _ q)
 
 pub own_clear : (s t : Meaning) (a : Bool) (x : Result (Unit {0}) LogRefusal) → PutsNext s.members s.blocks (standing s) → MakesChange (power_checks (ring a s)) (put_calls s.members s.blocks (next_record (standing s) [])) (standing t ≡ put_record s.members s.blocks (next_record (standing s) [])) s x t → OwnClear a s x t
 own_clear s t a x p h =
     subst (λ (os : List DeviceCall). MakesChange (power_checks (ring a s)) os (standing t ≡ cleared s.members s.blocks (standing s)) s x t) (sym p.0)
     (subst (λ (z : Option (ℕ × Contents)). MakesChange (power_checks (ring a s)) (put_calls s.members s.blocks (next_record (standing s) [])) (standing t ≡ z) s x t) (sym p.1) h)
-
-pub own_nothing : (s : Meaning) (a : Bool) → (a && s.on) ≡ true → clear_calls s.members s.blocks (standing s) ≡ [] → cleared s.members s.blocks (standing s) ≡ standing s → OwnClear {U = Unit {0}} a s (Ok tt) s
-own_nothing s a on e f =
-    makes_passed (power_checks (ring a s)) (clear_calls s.members s.blocks (standing s)) _ s (Ok tt) s (simp on) (subst (λ (os : List DeviceCall). Makes {U = Unit {0}} os s (Ok tt) s) (sym e) refl) (sym f)
-
-pub remembers : (s : Meaning) (r : Contents) (old : Option StandingRecord) (q : Result (Unit {0}) LogRefusal) (new : Option StandingRecord) → results.MatchResult q (λ _. kept new ≡ put_record s.members s.blocks r) (λ _. new ≡ old) → Remembers s r (kept old) q (kept new)
-remembers s r before (Ok u) after h = h
-remembers s r before (Err e) after h = ap kept h
 
 pub empty_list : (ss : List ℕ) → length ss ≡ 0 → ss ≡ []
 empty_list [] e = refl

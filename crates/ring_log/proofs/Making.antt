@@ -1,5 +1,6 @@
 -- The device calls that the code makes are those of the lists; blocks of records.
 use Rattle.std.proofs.Common.{◌≡◌, ℕ, ◌/◌, ◌%◌, ◌≤◌, Bool, true, false, cond, ◌&&◌, leb, List, [], ◌∷◌, length, is_some, Some, None, Ok, Err, Option, Result, sym, refl, ap, ◌∙◌, subst, inl, inr, arith}
+use Rattle.std.specs.Option.{ok_or}
 use Rattle.std.proofs.lemmas.List.{length-take-le}
 use Rattle.std.proofs.lemmas.Bool.{ne_eqb, eq-eqb, cond-true, cond-false, cases_Bool, false≢true}
 use Rattle.intent_log.specs.declared.refusal.LogRefusal.{LogRefusal}
@@ -69,6 +70,11 @@ union_is z ss e =
       | inl t ↦ (let q : Some (stripes z) ≡ Some ss = e ∙ cond-true (leb (length ss) 64 && rising 0 ss) (Some ss) None t in cc)
       | inr t ↦ absurd (some≢none (e ∙ cond-false (leb (length ss) 64 && rising 0 ss) (Some ss) None t))
     ]
+
+-- the refusal where there is no set of both
+pub unfit : (o : Option StripeSet) (e d : LogRefusal) → Err d ≡ ok_or o e → d ≡ e
+unfit None e d h = ap (λ (q : Result StripeSet LogRefusal). elim q [ Ok z ↦ e | Err y ↦ y ]) h
+unfit (Some z) e d h = ap (λ (q : Result StripeSet LogRefusal). elim q [ Ok z ↦ e | Err y ↦ y ]) h
 
 pub fits_answer : (on is_list answer fit : Bool) → on ≡ true → is_list ≡ true → answer ≡ fit → ◌≡◌ {A = Result Bool LogRefusal} (Ok answer) (cond on (Ok (is_list && fit)) (Err Off))
 fits_answer on is_list answer fit e f q =

@@ -1,5 +1,5 @@
 -- A put, whole and cut: from its device calls to what the log means then.
-use Rattle.std.specs.Prelude.{◌≡◌, ℕ, ◌/◌, ◌%◌, ◌<◌, ◌≤◌, Bool, true, false, ◌⊎◌, List, Some, Ok, Err, Option, Result, ◌≢◌, refl}
+use Rattle.std.specs.Prelude.{◌≡◌, ℕ, ◌/◌, ◌%◌, ◌<◌, ◌≤◌, Bool, true, false, ◌&&◌, ◌⊎◌, List, Some, Ok, Err, Option, Result, ◌≢◌, refl}
 use Rattle.std.proofs.Common.{sym, ap, subst, ◌∙◌, inl, inr, ⊎_elim, mod-lt, arith}
 use Rattle.std.proofs.lemmas.Bool.{cases_eq, and_right, and_from}
 use Rattle.std.specs.Result as results
@@ -14,15 +14,15 @@ use Rattle.device_calls.proofs.Refusals.{CurrentStands, went}
 use Rattle.record.specs.Contents.{Contents}
 use Rattle.record.specs.Form.{block}
 use Rattle.record.specs.Reading.{recorded}
-use Rattle.intent_log.specs.Meaning.{Standing, MayStand}
+use Rattle.intent_log.specs.Meaning.{Standing, MayStand, listed}
 use Rattle.intent_log.specs.Refusals.{PowerWent}
-use Rattle.intent_log.specs.Calls.{ChangeDone, CutShort}
+use Rattle.intent_log.specs.Calls.{ChangeDone, CutShort, fresh_checks}
 use Rattle.intent_log.specs.Devices.{Makes}
 use Rattle.intent_log.specs.declared.refusal.LogRefusal.{LogRefusal}
 use Rattle.intent_log.proofs.Changes.{in_map}
 use Rattle.ring_log.specs.Slots.{slots, slot_for}
-use Rattle.ring_log.specs.Highest.{highest, candidates, version_of}
-use Rattle.ring_log.specs.Ring.{slot_record, slot_records, standing_of, stands_in, ring_on, ring, Steady}
+use Rattle.ring_log.specs.Highest.{highest, candidates, version_of, present}
+use Rattle.ring_log.specs.Ring.{slot_record, slot_records, standing_of, stands_in, ring_on, ring, Steady, Sound}
 use Rattle.ring_log.specs.Own.{put_record, put_calls}
 use Rattle.ring_log.specs.HighestLemmas.{highest_same, highest_put, chosen_from}
 use Rattle.ring_log.specs.Places.{place, apart}
@@ -174,3 +174,23 @@ module _ (s t : Meaning) (a₀ a : Bool) (r : Contents) (l : 1 ≤ s.members) (l
 -- the counts stay
 pub steady_same : (s t : Meaning) (kept : Option (ℕ × Contents)) → SameCounts s t → Steady s.members s.blocks t kept → Steady t.members t.blocks t kept
 steady_same s t kept z h = subst (λ m. Steady m t.blocks t kept) (sym z.members) (subst (λ b. Steady s.members b t kept) (sym z.blocks) h)
+
+-- what is kept in memory after a put of r
+abbrev pub Remembers : Meaning → Contents → Option (ℕ × Contents) → Result (Unit {0}) LogRefusal → Option (ℕ × Contents) → Type 0
+Remembers s r old q new = results.MatchResult q (λ _. new ≡ put_record s.members s.blocks r) (λ _. new ≡ old)
+
+-- A put of r by a log that is on: the store below, whether it is awake and what it keeps in memory, before and after.
+pub record Put (s : Meaning) (a : Bool) (b : Option (ℕ × Contents)) (r : Contents) (x : Result (Unit {0}) LogRefusal) (t : Meaning) (a' : Bool) (b' : Option (ℕ × Contents)) : Type 0 where
+  pub some : 1 ≤ s.members
+  pub law : CurrentStands t
+  pub on : (a && s.on) ≡ true
+  pub awake : a' ≡ a
+  pub valid : recorded (block r) ≡ Some r
+  pub calls : Makes (put_calls s.members s.blocks r) s x t
+  pub memory : Remembers s r b x b'
+
+-- The version that stands, where a list may be named in a record after it; else the refusal.
+abbrev pub FollowsWith : Bool → Meaning → Option (ℕ × Contents) → List ℕ → Result ℕ LogRefusal → Type 0
+FollowsWith a s b w q =
+    results.MatchResult q (λ v. ((a && s.on) ≡ true) × (present b ≡ true) × (listed w ≡ true) × (v ≡ version_of b) × (v < 4294967294))
+    (λ e. Sound a s b → fresh_checks (ring a s) w ≡ Some e)

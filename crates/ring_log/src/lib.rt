@@ -1,21 +1,19 @@
 //! The ring log: records in the first blocks of a member store, the highest version of which stands.
 #![tactic(auto)]
 
-ghost use Rattle.std.specs.Prelude.{◌≡◌, ◌+◌, ◌%◌, ◌/◌, ◌<◌, ◌≤◌, true, false, ◌&&◌, [], length, Some, MatchResult};
+ghost use Rattle.std.specs.Prelude.{◌≡◌, ◌+◌, ◌%◌, ◌<◌, ◌≤◌, true, false, ◌&&◌, length};
 ghost use Rattle.stripe_set.specs.Stripes.{stripes as listing};
 ghost use Rattle.record.specs.Contents.{contents};
-ghost use Rattle.record.specs.Form.{block};
 ghost use Rattle.record.specs.Limits.{allowed};
 ghost use Rattle.record.specs.Reading.{recorded};
 ghost use Rattle.device_calls.specs.Lists.{Performs, for_each};
 ghost use Rattle.intent_log.specs.Meaning.{listed};
-ghost use Rattle.intent_log.specs.Devices.{Makes};
-ghost use Rattle.ring_log.specs.Slots.{slots as slotted};
+ghost use Rattle.ring_log.specs.Slots.{slots as slotted, slot_place};
 ghost use Rattle.ring_log.specs.Highest.{at_slot, higher_of, slot_or, version_of, stripes_of};
 ghost use Rattle.ring_log.specs.Kept.{kept};
 ghost use Rattle.ring_log.specs.Ring.{ring as meant, Sound};
-ghost use Rattle.ring_log.specs.Own.{contents_of, put_record, put_calls, zero_slot, OwnMark, OwnFresh, OwnClear, OwnBlank, OwnPower, Shows};
-ghost use Rattle.ring_log.specs.Puts.{steady_single};
+ghost use Rattle.ring_log.specs.Own.{contents_of, zero_slot, OwnMark, OwnFresh, OwnClear, OwnBlank, OwnPower, Shows};
+ghost use Rattle.ring_log.specs.Puts.{Put, FollowsWith, steady_single};
 ghost use Rattle.std.proofs.Common.{rules};
 
 pub mod ring;
@@ -23,15 +21,13 @@ pub mod ring;
 use block_address::Address;
 use device_calls::store_and_bar;
 use intent_log::refusal::LogRefusal;
+use intent_log::state::LogState;
 use intent_log::{IntentLog, is_list};
-use member_store::MemberStore;
 use member_store::refusal::Refusal;
+use member_store::{BLOCK_BYTES, MemberStore};
 use record::form::Record;
 use ring::{RingLog, StandingRecord};
 use stripe_set::set::StripeSet;
-
-/// The length of a block.
-pub const BLOCK: usize = 512;
 
 /// The most slots of a ring.
 pub const MOST_SLOTS: usize = 64;
@@ -42,33 +38,17 @@ pub const LEAST_SLOTS: usize = 2;
 /// The version from which a ring is spent.
 pub const SPENT: u32 = 4294967294;
 
-// How many slots lie on a store.
-fn slot_count(members: usize, blocks: usize) -> usize
-    requires { (1 ≤ members) × (1 ≤ blocks) }
-    ensures count { result ≡ slotted members blocks }
-    ensures some { 1 ≤ result }
-{
-    if members >= MOST_SLOTS || blocks >= MOST_SLOTS {
-        return MOST_SLOTS;
-    }
-    let all = members * blocks;
-    if all < MOST_SLOTS { all } else { MOST_SLOTS }
-}
-
 /// How many slots a ring has on a store with these counts.
 pub fn slots_of(members: usize, blocks: usize) -> usize
     ensures { result ≡ slotted members blocks }
 {
-    if members == 0 || blocks == 0 {
-        return 0;
-    }
-    slot_count(members, blocks)
+    members.saturating_mul(blocks).min(MOST_SLOTS)
 }
 
 // Where a slot lies: the slots go over the members, block by block.
 fn slot_address(slot: usize, members: usize) -> Address
     requires { 1 ≤ members }
-    ensures { (result.member ≡ slot % members) × (result.block ≡ slot / members) }
+    ensures { result ≡ slot_place members slot }
 {
     Address {
         member: slot % members,
@@ -89,10 +69,7 @@ fn set_of(list: &[u32]) -> StripeSet
     requires { listed list.now ≡ true }
     ensures { listing result ≡ list.now }
 {
-    match StripeSet::from_slice(list) {
-        Some(stripes) => stripes,
-        None => unreachable(),
-    }
+    StripeSet::from_slice(list).unwrap()
 }
 
 // The record that follows a version, with these stripes.
@@ -100,142 +77,114 @@ fn record_after(version: u32, stripes: StripeSet) -> Record
     requires { (version < 4294967295) × (allowed (version + 1) (length (listing stripes)) ≡ true) }
     ensures { contents result ≡ contents_of (version + 1) (listing stripes) }
 {
-    match Record::new(version + 1, stripes) {
-        Some(record) => record,
-        None => unreachable(),
-    }
+    Record::new(version + 1, stripes).unwrap()
 }
 
 // The record in a slot, if any.
-fn found_in(slot: usize, bytes: &[u8; BLOCK]) -> Option<StandingRecord>
+fn found_in(slot: usize, bytes: &[u8; BLOCK_BYTES]) -> Option<StandingRecord>
     ensures { kept result ≡ at_slot slot (recorded bytes.now) }
 {
-    match Record::decode(bytes) {
-        None => None,
-        Some(record) => Some(StandingRecord { slot, record }),
-    }
+    Record::decode(bytes).map(|record| StandingRecord { slot, record })
 }
 
 // Of a record and a later slot's, the one that stands.
 fn higher(best: Option<StandingRecord>, next: Option<StandingRecord>) -> Option<StandingRecord>
     ensures { kept result ≡ higher_of (kept best) (kept next) }
 {
-    match next {
-        None => best,
-        Some(n) => match best {
-            None => next,
-            Some(b) => if b.record.version() < n.record.version() {
-                next
-            } else {
-                best
-            },
-        },
+    match (best, next) {
+        (None, _) => next,
+        (Some(b), Some(n)) if b.record.version() < n.record.version() => next,
+        _ => best,
     }
 }
 
 impl<S: MemberStore> RingLog<S> {
     /// A log on a store. It is off until its first power-on.
     pub fn new(store: S) -> RingLog<S>
-        ensures store { result.store ≡ store }
-        ensures off { (meant result.awake (S.MemberStore.meaning result.store)).on ≡ false }
+        ensures store { result.state.store ≡ store }
+        ensures off { (meant result.state.awake (S.MemberStore.meaning result.state.store)).on ≡ false }
     {
         RingLog {
-            store,
-            awake: false,
-            standing: None,
+            state: LogState::new(store),
         }
     }
 
     /// The store that the log lies on, given back.
     pub fn into_store(self) -> S
-        ensures { result ≡ self.store }
+        ensures { result ≡ self.state.store }
     {
-        let RingLog {
-            store,
-            awake: _,
-            standing: _,
-        } = self;
-        store
+        self.state.store
     }
 
     /// The record that stands, if any: its version and its stripes.
     pub fn standing_record(&self) -> Result<Option<Record>, LogRefusal>
-        ensures { Sound self.now.awake (S.MemberStore.meaning self.now.store) (kept self.now.standing) → Shows (self.now.awake && (S.MemberStore.meaning self.now.store).on) (S.MemberStore.meaning self.now.store) result }
+        ensures { let s = S.MemberStore.meaning self.now.state.store in Sound self.now.state.awake s (kept self.now.state.standing) → Shows (self.now.state.awake && s.on) s result }
     {
-        if !self.powered() {
-            return Err(LogRefusal::Off);
-        }
-        match self.standing {
-            None => Ok(None),
-            Some(standing) => Ok(Some(standing.record)),
-        }
-    }
-
-    fn powered(&self) -> bool
-        ensures { result ≡ (self.now.awake && (S.MemberStore.meaning self.now.store).on) }
-    {
-        self.awake && self.store.powered()
+        self.state.check_power()?;
+        Ok(self.state.standing.map(|standing| standing.record))
     }
 
     // The stripes that are named.
     fn named(&self) -> StripeSet
-        ensures { listing result ≡ stripes_of (kept self.now.standing) }
+        ensures { listing result ≡ stripes_of (kept self.now.state.standing) }
     {
-        match self.standing {
-            None => StripeSet::empty(),
-            Some(standing) => standing.record.stripes(),
-        }
+        self.state
+            .standing
+            .map_or(StripeSet::empty(), |standing| standing.record.stripes())
     }
 
     // The version that stands, or 0.
     fn version(&self) -> u32
-        ensures { result ≡ version_of (kept self.now.standing) }
+        ensures { result ≡ version_of (kept self.now.state.standing) }
     {
-        match self.standing {
-            None => 0,
-            Some(standing) => standing.record.version(),
-        }
+        self.state
+            .standing
+            .map_or(0, |standing| standing.record.version())
     }
 
     // The slot of the record that stands, or a number where none does.
     fn slot_or(&self, none: usize) -> usize
-        ensures { result ≡ slot_or none (kept self.now.standing) }
+        ensures { result ≡ slot_or none (kept self.now.state.standing) }
     {
-        match self.standing {
-            None => none,
-            Some(standing) => standing.slot,
-        }
+        self.state.standing.map_or(none, |standing| standing.slot)
     }
 
     // Stores a record in the slot of its version and bars.
     fn put(&mut self, next: Record) -> Result<(), LogRefusal>
-        ensures awake { self.new.awake ≡ self.old.awake }
-        ensures calls { Makes (put_calls (S.MemberStore.meaning self.old.store).members (S.MemberStore.meaning self.old.store).blocks (contents next)) (S.MemberStore.meaning self.old.store) result (S.MemberStore.meaning self.new.store) }
-        ensures valid { recorded (block (contents next)) ≡ Some (contents next) }
-        ensures memory { MatchResult result (λ _. kept self.new.standing ≡ put_record (S.MemberStore.meaning self.old.store).members (S.MemberStore.meaning self.old.store).blocks (contents next)) (λ _. self.new.standing ≡ self.old.standing) }
+        requires { (self.old.state.awake && (S.MemberStore.meaning self.old.state.store).on) ≡ true }
+        ensures { Put (S.MemberStore.meaning self.old.state.store) self.old.state.awake (kept self.old.state.standing) (contents next) result (S.MemberStore.meaning self.new.state.store) self.new.state.awake (kept self.new.state.standing) }
     {
-        let members = self.store.members();
-        let slot = slot_for(next.version(), slot_count(members, self.store.blocks()));
+        let members = self.state.store.members();
+        let slot = slot_for(next.version(), slots_of(members, self.state.store.blocks()));
         let bytes = next.encode();
-        if let Err(e) = store_and_bar(&mut self.store, slot_address(slot, members), &bytes) {
-            return Err(LogRefusal::Store(e));
-        }
-        self.standing = Some(StandingRecord { slot, record: next });
+        store_and_bar(&mut self.state.store, slot_address(slot, members), &bytes)?;
+        self.state.standing = Some(StandingRecord { slot, record: next });
         Ok(())
+    }
+
+    // The version that stands, where a list may be named in a record after it.
+    fn version_before(&self, list: &[u32]) -> Result<u32, LogRefusal>
+        ensures { FollowsWith self.now.state.awake (S.MemberStore.meaning self.now.state.store) (kept self.now.state.standing) list.now result }
+    {
+        self.state.check_list(list)?;
+        let version = self.version();
+        if version >= SPENT {
+            return Err(LogRefusal::Spent);
+        }
+        Ok(version)
     }
 
     // Zeroes every slot but one.
     fn zero_slots(&mut self, members: usize, slots: usize, keep: usize) -> Result<(), Refusal>
         requires { 1 ≤ members }
-        ensures same { (self.new.awake ≡ self.old.awake) × (self.new.standing ≡ self.old.standing) }
-        ensures calls { Performs (for_each (zero_slot members keep) slots) (S.MemberStore.meaning self.old.store) result (S.MemberStore.meaning self.new.store) }
+        ensures same { (self.new.state.awake ≡ self.old.state.awake) × (self.new.state.standing ≡ self.old.state.standing) }
+        ensures calls { Performs (for_each (zero_slot members keep) slots) (S.MemberStore.meaning self.old.state.store) result (S.MemberStore.meaning self.new.state.store) }
     {
         for i in 0..slots {
-            if i == keep {
-                continue;
-            }
-            if let Err(e) = self.store.store(slot_address(i, members), &[0; BLOCK]) {
-                return Err(e);
+            if i != keep {
+                self.state
+                    .store
+                    .store(slot_address(i, members), &[0; BLOCK_BYTES])?;
             }
         }
         Ok(())
@@ -243,160 +192,109 @@ impl<S: MemberStore> RingLog<S> {
 }
 
 impl<S: MemberStore> IntentLog for RingLog<S> {
-    ghost meaning = { λ l. meant l.awake (S.MemberStore.meaning l.store) };
+    ghost meaning = { λ l. meant l.state.awake (S.MemberStore.meaning l.state.store) };
 
-    ghost sound = { λ l. Sound l.awake (S.MemberStore.meaning l.store) (kept l.standing) };
+    ghost sound = { λ l. Sound l.state.awake (S.MemberStore.meaning l.state.store) (kept l.state.standing) };
 
-    ghost marking = { λ l w r m. OwnMark l.awake (S.MemberStore.meaning l.store) w r (S.MemberStore.meaning m.store) };
+    ghost marking = { λ l w r m. OwnMark l.state.awake (S.MemberStore.meaning l.state.store) w r (S.MemberStore.meaning m.state.store) };
 
-    ghost freshening = { λ l w r m. OwnFresh l.awake (S.MemberStore.meaning l.store) w r (S.MemberStore.meaning m.store) };
+    ghost freshening = { λ l w r m. OwnFresh l.state.awake (S.MemberStore.meaning l.state.store) w r (S.MemberStore.meaning m.state.store) };
 
-    ghost clearing = { λ l r m. OwnClear l.awake (S.MemberStore.meaning l.store) r (S.MemberStore.meaning m.store) };
+    ghost clearing = { λ l r m. OwnClear l.state.awake (S.MemberStore.meaning l.state.store) r (S.MemberStore.meaning m.state.store) };
 
-    ghost blanking = { λ l r m. OwnBlank l.awake (S.MemberStore.meaning l.store) r (S.MemberStore.meaning m.store) };
+    ghost blanking = { λ l r m. OwnBlank l.state.awake (S.MemberStore.meaning l.state.store) r (S.MemberStore.meaning m.state.store) };
 
-    ghost powering = { λ l r m. OwnPower l.awake (S.MemberStore.meaning l.store) r (S.MemberStore.meaning m.store) };
+    ghost powering = { λ l r m. OwnPower l.state.awake (S.MemberStore.meaning l.state.store) r (S.MemberStore.meaning m.state.store) };
 
     ghost rests = { Prim.search rules };
 
     ghost single = { λ l h on c k.
-        let s = S.MemberStore.meaning l.store in
-        steady_single s.members s.blocks l.awake s (kept l.standing) (S.MemberStore.counts l.store).0 (S.MemberStore.stands l.store) (h on) c k };
+        let s = S.MemberStore.meaning l.state.store in
+        steady_single s.members s.blocks l.state.awake s (kept l.state.standing) (S.MemberStore.counts l.state.store).0 (S.MemberStore.stands l.state.store) (h on) c k };
 
     ghost lists = { Prim.search rules };
 
     fn is_named(&self, stripe: u32) -> Result<bool, LogRefusal> {
-        if !self.powered() {
-            return Err(LogRefusal::Off);
-        }
+        self.state.check_power()?;
         Ok(self.named().contains(stripe))
     }
 
     fn next_named(&self, at: u32) -> Result<Option<u32>, LogRefusal> {
-        if !self.powered() {
-            return Err(LogRefusal::Off);
-        }
+        self.state.check_power()?;
         Ok(self.named().least_from(at))
     }
 
     fn stands(&self) -> Result<bool, LogRefusal> {
-        if !self.powered() {
-            return Err(LogRefusal::Off);
-        }
-        Ok(self.standing.is_some())
+        self.state.check_power()?;
+        Ok(self.state.standing.is_some())
     }
 
     fn fits(&self, list: &[u32]) -> Result<bool, LogRefusal> {
-        if !self.powered() {
-            return Err(LogRefusal::Off);
-        }
-        if !is_list(list) {
-            return Ok(false);
-        }
-        Ok(self.named().union(&set_of(list)).is_some())
+        self.state.check_power()?;
+        Ok(is_list(list) && self.named().union(&set_of(list)).is_some())
     }
 
     fn spent(&self) -> Result<bool, LogRefusal> {
-        if !self.powered() {
-            return Err(LogRefusal::Off);
-        }
+        self.state.check_power()?;
         Ok(self.version() >= SPENT)
     }
 
     fn mark(&mut self, list: &[u32]) -> Result<(), LogRefusal> {
-        if !self.powered() {
-            return Err(LogRefusal::Off);
-        }
-        if self.standing.is_none() {
-            return Err(LogRefusal::NoRecord);
-        }
-        if !is_list(list) {
-            return Err(LogRefusal::WrongList(list.len()));
-        }
-        let version = self.version();
-        if version >= SPENT {
-            return Err(LogRefusal::Spent);
-        }
-        match self.named().union(&set_of(list)) {
-            None => Err(LogRefusal::DoesNotFit(list.len())),
-            Some(both) => self.put(record_after(version, both)),
-        }
+        let version = self.version_before(list)?;
+        let union = self.named().union(&set_of(list));
+        let stripes = union.ok_or(LogRefusal::DoesNotFit(list.len()))?;
+        self.put(record_after(version, stripes))
     }
 
     fn fresh(&mut self, list: &[u32]) -> Result<(), LogRefusal> {
-        if !self.powered() {
-            return Err(LogRefusal::Off);
-        }
-        if self.standing.is_none() {
-            return Err(LogRefusal::NoRecord);
-        }
-        if !is_list(list) {
-            return Err(LogRefusal::WrongList(list.len()));
-        }
-        let version = self.version();
-        if version >= SPENT {
-            return Err(LogRefusal::Spent);
-        }
+        let version = self.version_before(list)?;
         self.put(record_after(version, set_of(list)))
     }
 
     fn clear(&mut self) -> Result<(), LogRefusal> {
-        if !self.powered() {
-            return Err(LogRefusal::Off);
+        self.state.check_power()?;
+        if self.state.standing.is_some() && self.named().len() == 0 {
+            return Ok(());
         }
-        match self.standing {
-            None => self.put(record_after(0, StripeSet::empty())),
-            Some(standing) => {
-                if standing.record.stripes().len() == 0 {
-                    return Ok(());
-                }
-                self.put(record_after(standing.record.version(), StripeSet::empty()))
-            }
-        }
+        self.put(record_after(self.version(), StripeSet::empty()))
     }
 
     fn blank(&mut self) -> Result<(), LogRefusal> {
-        if !self.powered() {
-            return Err(LogRefusal::Off);
-        }
-        let members = self.store.members();
-        let slots = slot_count(members, self.store.blocks());
+        self.state.check_power()?;
+        let members = self.state.store.members();
+        let slots = slots_of(members, self.state.store.blocks());
         let keep = self.slot_or(slots);
-        if let Err(e) = self.zero_slots(members, slots, keep) {
-            return Err(LogRefusal::Store(e));
-        }
-        if let Err(e) = self.store.barrier() {
-            return Err(LogRefusal::Store(e));
-        }
-        if self.standing.is_none() {
+        self.zero_slots(members, slots, keep)?;
+        self.state.store.barrier()?;
+        if self.state.standing.is_none() {
             return Ok(());
         }
-        if let Err(e) = store_and_bar(&mut self.store, slot_address(keep, members), &[0; BLOCK]) {
-            return Err(LogRefusal::Store(e));
-        }
-        self.standing = None;
+        store_and_bar(
+            &mut self.state.store,
+            slot_address(keep, members),
+            &[0; BLOCK_BYTES],
+        )?;
+        self.state.standing = None;
         Ok(())
     }
 
     fn power_on(&mut self) -> Result<(), LogRefusal> {
-        let members = self.store.members();
-        let blocks = self.store.blocks();
-        let slots = slot_count(members, blocks);
+        let members = self.state.store.members();
+        let blocks = self.state.store.blocks();
+        let slots = slots_of(members, blocks);
         if slots < LEAST_SLOTS {
             return Err(LogRefusal::TooSmall(members, blocks));
         }
-        self.awake = false;
-        self.store.power_on();
-        let mut bytes = [0u8; BLOCK];
+        self.state.awake = false;
+        self.state.store.power_on();
+        let mut bytes = [0u8; BLOCK_BYTES];
         let mut best = None;
         for i in 0..slots {
-            if let Err(e) = self.store.read(slot_address(i, members), &mut bytes) {
-                return Err(LogRefusal::Store(e));
-            }
+            self.state.store.read(slot_address(i, members), &mut bytes)?;
             best = higher(best, found_in(i, &bytes));
         }
-        self.standing = best;
-        self.awake = true;
+        self.state.standing = best;
+        self.state.awake = true;
         Ok(())
     }
 }

@@ -1,4 +1,5 @@
 // A ring's state, in a file of its own, since the definitions that read it stand beside it.
+use intent_log::state::LogState;
 use record::form::Record;
 
 /// The record that stands, and its slot.
@@ -11,8 +12,5 @@ pub struct StandingRecord {
 /// A log that goes round the first blocks of a store, one record a slot; the highest version stands.
 #[derive(Drop)]
 pub struct RingLog<S> {
-    pub(super) store: S,
-    // power-on has found what stands
-    pub(super) awake: bool,
-    pub(super) standing: Option<StandingRecord>,
+    pub(super) state: LogState<S, StandingRecord>,
 }

@@ -1,71 +1,41 @@
-use Rattle.std.proofs.Common.{◌≡◌, ℕ, ◌+◌, ◌<◌, true, ◌&&◌, [], length, Some, None, sym, ap, ◌∙◌, arith}
+use Rattle.std.proofs.Common.{◌≡◌, ◌+◌, ◌<◌, true, [], length, sym, ap, ◌∙◌, subst, arith}
+use Rattle.std.proofs.lemmas.Bool.{both_ways}
 use Rattle.intent_log.specs.Calls.{power_checks}
 use Rattle.stripe_set.specs.Stripes.{stripes}
 use Rattle.record.specs.Contents.{Contents, contents}
 use Rattle.ring_log.specs.Highest.{version_of, stripes_of, present}
 use Rattle.ring_log.specs.Kept.{kept}
 use Rattle.ring_log.specs.Ring.{ring}
-use Rattle.ring_log.specs.Own.{contents_of, standing}
-use Rattle.ring_log.proofs.Changing.{sound_after, own, clear_passes, clears, cleared_same, next_is, clear_nothing, clear_first, clear_next, own_clear, own_nothing, remembers, empty_list}
+use Rattle.ring_log.specs.Own.{contents_of}
+use Rattle.ring_log.proofs.Changing.{PutsNext, sound_after, own, clear_passes, clears, cleared_same, kept_present, next_is, puts_next, own_clear, empty_list}
 use Rattle.ring_log.proofs.RingLogIntentLog.clear.Goals as goal
+use Rattle.ring_log.proofs.RingLogIntentLog.clear.Goals.{else-is_some-via-then-is_some+else-len-eq0, else-is_some-via-else-is_some}
 
-pub returns-then-len-eq0 : goal.returns-then-len-eq0
-returns-then-len-eq0 g c =
-    let me = c.args.self.now in
+pub returns-then-len-eq0-clause-means : goal.returns-then-len-eq0-clause-means
+returns-then-len-eq0-clause-means g c =
+    let me = c.args.self.now.state in
     let s = g.S.MemberStore.meaning me.store in
     let b = kept me.standing in
-    let on : (me.awake && s.on) ≡ true = sym c.powered.ensures ∙ c.if-not-powered.false in
-    let st = c.in-Some.standing in
-    let is : b ≡ Some (st.slot, contents st.record) = ap kept c.in-Some.is in
-    let zero : length (contents st.record).stripes ≡ 0 = ap length (sym c.stripes.ensures) ∙ sym c.len.ensures ∙ c.if-len-eq0.true in
-    record {
-      sound = λ h. h;
-      means = λ h. cleared_same s me.awake b (g.met.S.MemberStore.counts me.store).0 (g.met.S.MemberStore.stands me.store) on h (ap present is) (ap stripes_of is ∙ empty_list (contents st.record).stripes zero);
-      own = λ h.
-          let q = clear_nothing s.members s.blocks (standing s) (st.slot, contents st.record) (sym (h on).same ∙ is) zero in
-          own_nothing s me.awake on q.0 q.1;
-    }
+    let empty : length (stripes_of b) ≡ 0 = ap length (sym c.named.ensures) ∙ sym c.len.ensures ∙ c.if-len-eq0.true in
+    λ h. cleared_same s me.awake b (g.met.S.MemberStore.counts me.store).0 (g.met.S.MemberStore.stands me.store) c.in_ok-check_power.ensures h (kept_present me.standing ∙ sym c.if-is_some.ensures) (empty_list (stripes_of b) empty)
 
-pub returns-in-None : goal.returns-in-None
-returns-in-None g c =
-    let me = c.args.self.now in
+pub returns : goal.returns
+returns g c =
+    let me = c.args.self.now.state in
+    let end = c.put.new.self.state in
     let s = g.S.MemberStore.meaning me.store in
-    let b = kept me.standing in
-    let on : (me.awake && s.on) ≡ true = sym c.powered.ensures ∙ c.if-not-powered.false in
-    let end = c.put.new.self in
     let t = g.S.MemberStore.meaning end.store in
-    let l = (g.met.S.MemberStore.counts me.store).0 in
-    let law = g.met.S.MemberStore.stands end.store in
+    let b = kept me.standing in
+    let p = c.put.ensures in
     let r = contents c.record_after.result in
-    let is : b ≡ None = ap kept c.in-None.is in
-    let ver : version_of b ≡ 0 = ap version_of is in
-    let next : r ≡ contents_of (version_of b + 1) [] = c.record_after.ensures ∙ (ap (λ (n : ℕ). contents_of (n + 1) (stripes c.empty.result)) (sym ver) ∙ ap (contents_of (version_of b + 1)) c.empty.ensures) in
+    let next : r ≡ contents_of (version_of b + 1) [] = c.record_after.ensures ∙ next_is b c.version.result (stripes c.empty.result) [] c.version.ensures c.empty.ensures in
     let up : version_of b < r.version = let q = ap (λ (z : Contents). z.version) next in omega arith in
+    let some : present b ≡ true → length (stripes_of b) ≡ 0 → ⊥ = λ pr empty. elim c.else-is_some.branch [
+      | else-is_some-via-then-is_some+else-len-eq0 w ↦ w.if-len-eq0.false (w.len.ensures ∙ ap length w.named.ensures ∙ empty)
+      | else-is_some-via-else-is_some w ↦ both_ways _ w.if-is_some.false (c.is_some.ensures ∙ sym (kept_present me.standing) ∙ pr)
+    ] in
     record {
-      sound = λ h. sound_after s t me.awake end.awake r b (kept end.standing) l law on c.put.ensures.awake h up c.put.ensures.valid c.put.result c.put.ensures.calls (remembers s r me.standing c.put.result end.standing c.put.ensures.memory);
-      means = λ h. clears s t me.awake end.awake r b (kept end.standing) l law on c.put.ensures.awake h up c.put.ensures.valid c.put.result c.put.ensures.calls (ap (λ (z : Contents). z.stripes) next);
-      own = λ h. own_clear s t me.awake c.put.result (clear_first s.members s.blocks (standing s) (sym (h on).same ∙ is)) (own s t me.awake end.awake r b (kept end.standing) l law on c.put.ensures.awake h up c.put.ensures.valid c.put.result c.put.ensures.calls (power_checks (ring me.awake s)) [] (clear_passes s t me.awake end.awake r b (kept end.standing) l law on c.put.ensures.awake h up c.put.ensures.valid c.put.result c.put.ensures.calls) next);
-    }
-
-pub returns-else-len-eq0 : goal.returns-else-len-eq0
-returns-else-len-eq0 g c =
-    let me = c.args.self.now in
-    let s = g.S.MemberStore.meaning me.store in
-    let b = kept me.standing in
-    let on : (me.awake && s.on) ≡ true = sym c.powered.ensures ∙ c.if-not-powered.false in
-    let end = c.put-in-Some.new.self in
-    let t = g.S.MemberStore.meaning end.store in
-    let l = (g.met.S.MemberStore.counts me.store).0 in
-    let law = g.met.S.MemberStore.stands end.store in
-    let r = contents c.record_after-in-Some.result in
-    let st = c.in-Some.standing in
-    let is : b ≡ Some (st.slot, contents st.record) = ap kept c.in-Some.is in
-    let ver : c.version.result ≡ version_of b = c.version.ensures ∙ sym (ap version_of is) in
-    let some : length (contents st.record).stripes ≡ 0 → ⊥ = λ z. c.if-len-eq0.false (c.len.ensures ∙ ap length c.stripes.ensures ∙ z) in
-    let next : r ≡ contents_of (version_of b + 1) [] = c.record_after-in-Some.ensures ∙ next_is b c.version.result (stripes c.empty-in-Some.result) [] ver c.empty-in-Some.ensures in
-    let up : version_of b < r.version = let q = ap (λ (z : Contents). z.version) next in omega arith in
-    record {
-      sound = λ h. sound_after s t me.awake end.awake r b (kept end.standing) l law on c.put-in-Some.ensures.awake h up c.put-in-Some.ensures.valid c.put-in-Some.result c.put-in-Some.ensures.calls (remembers s r me.standing c.put-in-Some.result end.standing c.put-in-Some.ensures.memory);
-      means = λ h. clears s t me.awake end.awake r b (kept end.standing) l law on c.put-in-Some.ensures.awake h up c.put-in-Some.ensures.valid c.put-in-Some.result c.put-in-Some.ensures.calls (ap (λ (z : Contents). z.stripes) next);
-      own = λ h. own_clear s t me.awake c.put-in-Some.result (clear_next s.members s.blocks (standing s) (st.slot, contents st.record) (sym (h on).same ∙ is) some) (own s t me.awake end.awake r b (kept end.standing) l law on c.put-in-Some.ensures.awake h up c.put-in-Some.ensures.valid c.put-in-Some.result c.put-in-Some.ensures.calls (power_checks (ring me.awake s)) [] (clear_passes s t me.awake end.awake r b (kept end.standing) l law on c.put-in-Some.ensures.awake h up c.put-in-Some.ensures.valid c.put-in-Some.result c.put-in-Some.ensures.calls) next);
+      sound = λ h. sound_after p h up;
+      means = λ h. clears p h up (ap (λ (z : Contents). z.stripes) next);
+      own = λ h. own_clear s t me.awake c.put.result (subst (PutsNext s.members s.blocks) (h p.on).same (puts_next s.members s.blocks b some)) (own p h up (power_checks (ring me.awake s)) [] (clear_passes p h up) next);
     }

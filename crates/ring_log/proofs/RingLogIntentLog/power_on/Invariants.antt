@@ -10,7 +10,7 @@ use Rattle.ring_log.proofs.RingLogIntentLog.power_on.Given as goal
 abbrev pub invariant-loop-i : goal.invariant-loop-i
 invariant-loop-i g l =
     (length l.bytes ≡ 512)
-    × (l.self.awake ≡ false)
-    × (g.S.MemberStore.meaning l.self.store ≡ g.S.MemberStore.meaning l.initial.self.store)
-    × (kept l.best ≡ highest (slot_record l.members (g.S.MemberStore.meaning l.initial.self.store)) l.i)
-    × Completed (for_each (read_slot l.members) l.i) (g.S.MemberStore.meaning l.initial.self.store) (g.S.MemberStore.meaning l.self.store)
+    × (l.self.state.awake ≡ false)
+    × (g.S.MemberStore.meaning l.self.state.store ≡ g.S.MemberStore.meaning l.initial.self.state.store)
+    × (kept l.best ≡ highest (slot_record l.members (g.S.MemberStore.meaning l.initial.self.state.store)) l.i)
+    × Completed (for_each (read_slot l.members) l.i) (g.S.MemberStore.meaning l.initial.self.state.store) (g.S.MemberStore.meaning l.self.state.store)
