@@ -6,14 +6,16 @@ use Rattle.std.proofs.lemmas.Bool.{eqb-true, eq-eqb, ne_eqb, both_ways}
 use Rattle.std.specs.Option.{option_map}
 use Rattle.geometry.specs.Places.{located, numbered}
 use Rattle.geometry.specs.declared.place.Location.{Location}
-use Rattle.cache.specs.declared.slot.Owner.{Owner}
-use Rattle.cache.specs.declared.slot.Owner.TheVariants.{Free, Buffering, Destaging}
-use Rattle.cache.specs.declared.slot.Slot.{Slot}
+use Rattle.std.specs.List.{count_by}
+use Rattle.std.specs.Option.{is_none}
+use Rattle.cache.specs.declared.slot.Cache.{Cache}
+use Rattle.cache.specs.declared.slot.Cache.TheVariants.{Buffering, Destaging}
+use Rattle.cache.specs.declared.slot.CachedBlock.{CachedBlock}
 use Rattle.cache.specs.Contents.{Blocks, no_blocks, one_if}
 use Rattle.cache.specs.Stripes.{is_number, in_stripe, HasStripe, looked_up, by_position, count_below, held_count, stripe_freed}
-use Rattle.cache.specs.Slots.{same, holds, blocks, each_once, slot_count, contents_of, owner_freed, slot_freed}
-use Rattle.cache.proofs.Once.{Once, once_from, once_back, same_contents}
-use Rattle.cache.proofs.Places.{number_from_place, place_from_number, some_injective}
+use Rattle.cache.specs.Slots.{Slot, same, blocks, each_once, contents_of, slot_freed}
+use Rattle.cache.proofs.Once.{Once, once_from, once_back, count_step, same_contents}
+use Rattle.cache.proofs.Places.{cond_none, number_from_place, place_from_number, some_injective}
 
 -- one block more or less in a count of positions
 same_count : (w : ℕ) (p q : ℕ → Bool) → ((i : ℕ) → i < w → q i ≡ p i) → count_below w q ≡ count_below w p
@@ -52,66 +54,75 @@ module _ (t : ℕ → Bool) where
   -- how many slots it frees
   abbrev pub freed_count : List Slot → ℕ
   freed_count [] = 0
-  freed_count (e ∷ es) = one_if (same e.owner Destaging && t e.block) + freed_count es
+  freed_count (None ∷ es) = freed_count es
+  freed_count (Some e ∷ es) = one_if (same e.cache Destaging && t e.block) + freed_count es
+
+  -- the first slot, freed or not
+  head_freed : (o : Cache) (w : Bool) (e : CachedBlock) (zs : List Slot) (k : ℕ) → blocks o (cond w None (Some e) ∷ zs) k ≡ cond w (blocks o zs k) (cond (same e.cache o && eqb e.block k) (Some e.bytes) (blocks o zs k))
+  head_freed o true e zs k = refl
+  head_freed o false e zs k = refl
+
+  once_freed : (o : Cache) (w : Bool) (e : CachedBlock) (zs : List Slot) → (same e.cache o ≡ true → blocks o zs e.block ≡ None) → Once o zs → Once o (cond w None (Some e) ∷ zs)
+  once_freed o true e zs a b = b
+  once_freed o false e zs a b = (a, b)
 
   module _ (x : List ℕ) (l : Option (List ℕ)) where
-    abbrev Either : Bool → Bool → Bool → Type 0
-    Either p q z = cond (same (cond p Free Destaging) Destaging && z) (Some x) (cond q None l) ≡ cond q None (cond (true && z) (Some x) l)
+    abbrev Either : Bool → Bool → Bool → Bool → Type 0
+    Either q p w z = cond (q && p) (cond w None l) (cond (q && z) (Some x) (cond w None l)) ≡ cond w None (cond (q && z) (Some x) l)
 
-    both : (q z : Bool) → Either q q z
-    both true z = refl
-    both false z = refl
+    both : (q p z : Bool) → Either q p p z
+    both false p z = refl
+    both true true z = refl
+    both true false z = refl
 
-    off : (p q : Bool) → Either p q false
-    off true q = refl
-    off false q = refl
+    off : (q p w : Bool) → Either q p w false
+    off false p w = refl
+    off true true w = refl
+    off true false w = refl
 
-    freed_at : (k b : ℕ) (o : Owner) → Dec (b ≡ k) → cond (same (owner_freed (t b) o) Destaging && eqb b k) (Some x) (cond (t k) None l) ≡ cond (t k) None (cond (same o Destaging && eqb b k) (Some x) l)
-    freed_at k b Free d = refl
-    freed_at k b Buffering d = refl
-    freed_at k b Destaging (yes e) = subst (λ p. Either p (t k) (eqb b k)) (ap t (sym e)) (both (t k) (eqb b k))
-    freed_at k b Destaging (no e) = subst (λ z. Either (t b) (t k) z) (sym (ne_eqb b k e)) (off (t b) (t k))
+    freed_at : (k b : ℕ) (q : Bool) → Dec (b ≡ k) → Either q (t b) (t k) (eqb b k)
+    freed_at k b q (yes e) = subst (λ w. Either q (t b) w (eqb b k)) (ap t e) (both q (t b) (eqb b k))
+    freed_at k b q (no e) = subst (λ z. Either q (t b) (t k) z) (sym (ne_eqb b k e)) (off q (t b) (t k))
 
-  none_both : (q : Bool) → ◌≡◌ {A = Option (List ℕ)} None (cond q None None)
-  none_both true = refl
-  none_both false = refl
+    beside_at : (c : Cache) (p z : Bool) → cond (same c Destaging && p) l (cond (same c Buffering && z) (Some x) l) ≡ cond (same c Buffering && z) (Some x) l
+    beside_at Buffering p z = refl
+    beside_at Destaging true z = refl
+    beside_at Destaging false z = refl
 
   freed_blocks : (k : ℕ) (xs : List Slot) → blocks Destaging (map (slot_freed t) xs) k ≡ cond (t k) None (blocks Destaging xs k)
-  freed_blocks k [] = none_both (t k)
-  freed_blocks k (e ∷ xs) = ap (λ z. cond (holds Destaging k (slot_freed t e)) (Some e.bytes) z) (freed_blocks k xs) ∙ freed_at e.bytes (blocks Destaging xs k) k e.block e.owner (ℕ_discrete e.block k)
-
-  same_freed : (q : Bool) (o : Owner) → same (owner_freed q o) Buffering ≡ same o Buffering
-  same_freed q Free = refl
-  same_freed q Buffering = refl
-  same_freed true Destaging = refl
-  same_freed false Destaging = refl
+  freed_blocks k [] = sym (cond_none (t k))
+  freed_blocks k (None ∷ xs) = freed_blocks k xs
+  freed_blocks k (Some e ∷ xs) =
+      head_freed Destaging (same e.cache Destaging && t e.block) e (map (slot_freed t) xs) k
+      ∙ ap (λ z. cond (same e.cache Destaging && t e.block) z (cond (same e.cache Destaging && eqb e.block k) (Some e.bytes) z)) (freed_blocks k xs)
+      ∙ freed_at e.bytes (blocks Destaging xs k) k e.block (same e.cache Destaging) (ℕ_discrete e.block k)
 
   freed_beside : (k : ℕ) (xs : List Slot) → blocks Buffering (map (slot_freed t) xs) k ≡ blocks Buffering xs k
   freed_beside k [] = refl
-  freed_beside k (e ∷ xs) = ap (λ z. cond (holds Buffering k (slot_freed t e)) (Some e.bytes) z) (freed_beside k xs) ∙ ap (λ q. cond (q && eqb e.block k) (Some e.bytes) (blocks Buffering xs k)) (same_freed (t e.block) e.owner)
-
-  still_destaging : (q : Bool) (o : Owner) → same (owner_freed q o) Destaging ≡ true → same o Destaging ≡ true
-  still_destaging q Free h = h
-  still_destaging q Buffering h = h
-  still_destaging q Destaging h = refl
+  freed_beside k (None ∷ xs) = freed_beside k xs
+  freed_beside k (Some e ∷ xs) =
+      head_freed Buffering (same e.cache Destaging && t e.block) e (map (slot_freed t) xs) k
+      ∙ ap (λ z. cond (same e.cache Destaging && t e.block) z (cond (same e.cache Buffering && eqb e.block k) (Some e.bytes) z)) (freed_beside k xs)
+      ∙ beside_at e.bytes (blocks Buffering xs k) e.cache (t e.block) (eqb e.block k)
 
   freed_once : (xs : List Slot) → Once Destaging xs → Once Destaging (map (slot_freed t) xs)
   freed_once [] u = tt
-  freed_once (e ∷ xs) u = (λ s. freed_blocks e.block xs ∙ ap (λ z. cond (t e.block) None z) (u.0 (still_destaging (t e.block) e.owner s)) ∙ sym (none_both (t e.block)), freed_once xs u.1)
+  freed_once (None ∷ xs) u = freed_once xs u
+  freed_once (Some e ∷ xs) u = once_freed Destaging (same e.cache Destaging && t e.block) e (map (slot_freed t) xs) (λ s. freed_blocks e.block xs ∙ ap (λ z. cond (t e.block) None z) (u.0 s) ∙ cond_none (t e.block)) (freed_once xs u.1)
 
   freed_once_beside : (xs : List Slot) → Once Buffering xs → Once Buffering (map (slot_freed t) xs)
   freed_once_beside [] u = tt
-  freed_once_beside (e ∷ xs) u = (λ s. freed_beside e.block xs ∙ u.0 (sym (same_freed (t e.block) e.owner) ∙ s), freed_once_beside xs u.1)
+  freed_once_beside (None ∷ xs) u = freed_once_beside xs u
+  freed_once_beside (Some e ∷ xs) u = once_freed Buffering (same e.cache Destaging && t e.block) e (map (slot_freed t) xs) (λ s. freed_beside e.block xs ∙ u.0 s) (freed_once_beside xs u.1)
 
-  owner_count : (q : Bool) (o : Owner) → one_if (same (owner_freed q o) Free) ≡ one_if (same o Free) + one_if (same o Destaging && q)
-  owner_count q Free = refl
-  owner_count q Buffering = refl
-  owner_count true Destaging = refl
-  owner_count false Destaging = refl
+  free_if : (w : Bool) (e : CachedBlock) → cond (is_none (cond w None (Some e))) 1 0 ≡ one_if w
+  free_if true e = refl
+  free_if false e = refl
 
-  freed_free : (xs : List Slot) → slot_count Free (map (slot_freed t) xs) ≡ slot_count Free xs + freed_count xs
+  freed_free : (xs : List Slot) → count_by is_none (map (slot_freed t) xs) ≡ count_by is_none xs + freed_count xs
   freed_free [] = refl
-  freed_free (e ∷ xs) = let a = owner_count (t e.block) e.owner in let b = freed_free xs in omega arith
+  freed_free (None ∷ xs) = let b = freed_free xs in omega (arith, count_step)
+  freed_free (Some e ∷ xs) = let a = free_if (same e.cache Destaging && t e.block) e in let b = freed_free xs in omega (arith, count_step)
 
 -- the slots that a stripe has are as many as its positions that are held
 module _ (m n : ℕ) (h : 3 ≤ m) (s : ℕ) where
@@ -174,9 +185,10 @@ module _ (m n : ℕ) (h : 3 ≤ m) (s : ℕ) where
 
   pub freed_held : (xs : List Slot) → Once Destaging xs → freed_count (in_stripe m n s) xs ≡ held_count m n (blocks Destaging xs) s
   freed_held [] u = sym (nothing_held (m - 1))
-  freed_held (e ∷ xs) u =
+  freed_held (None ∷ xs) u = freed_held xs u
+  freed_held (Some e ∷ xs) u =
       let ih = freed_held xs u.1 in
-      elim (same e.owner Destaging) as (λ q. (q ≡ true → blocks Destaging xs e.block ≡ None) → one_if (q && in_stripe m n s e.block) + freed_count (in_stripe m n s) xs ≡ held_count m n (λ k. cond (q && eqb e.block k) (Some e.bytes) (blocks Destaging xs k)) s) [
+      elim (same e.cache Destaging) as (λ q. (q ≡ true → blocks Destaging xs e.block ≡ None) → one_if (q && in_stripe m n s e.block) + freed_count (in_stripe m n s) xs ≡ held_count m n (λ k. cond (q && eqb e.block k) (Some e.bytes) (blocks Destaging xs k)) s) [
         | true ↦ λ z. let a = count_added (blocks Destaging xs) e.block e.bytes (z refl) in omega arith
         | false ↦ λ z. omega arith
       ] u.0

@@ -1,26 +1,49 @@
 -- A block looked for slot by slot. Assumes nothing.
-use Rattle.std.proofs.Common.{◌≡◌, ℕ, zero, suc, ◌+◌, ◌<◌, true, false, cond, List, [], ◌∷◌, ◌++◌, length, get_or, take, Some, None, refl, ap, ◌∙◌, arith}
-use Rattle.std.proofs.lemmas.List.{take_more}
-use Rattle.cache.specs.declared.slot.Owner.{Owner}
-use Rattle.cache.specs.declared.slot.Slot.{Slot}
-use Rattle.cache.proofs.Once.{some≢none}
-use Rattle.cache.specs.Slots.{holds, blocks}
+use Rattle.std.proofs.Common.{◌≡◌, ℕ, ◌<◌, Bool, true, false, cond, ltb, List, ◌∷◌, length, get_or, take, Some, None, Option, sym, refl, ap, ◌∙◌, arith}
+use Rattle.std.specs.List.{position, position_or_len}
+use Rattle.std.proofs.lemmas.List.{get_or-take, length-take-le}
+use Rattle.std.proofs.lemmas.List.Sums.{fails_before_first}
+use Rattle.std.proofs.lemmas.List.Quantifiers.{position-Some}
+use Rattle.std.proofs.lemmas.List.Recursion.{found_at, found_nowhere}
+use Rattle.std.proofs.lemmas.Bool.{ltb-false}
+use Rattle.cache.specs.declared.slot.Cache.{Cache}
+use Rattle.cache.specs.Slots.{Slot, holds, blocks}
+use Rattle.cache.proofs.Places.{none≢some}
 
-module _ (o : Owner) (k : ℕ) where
-  pub blocks_push : (xs : List Slot) (e : Slot) → holds o k e ≡ false → blocks o xs k ≡ None → blocks o (xs ++ e ∷ []) k ≡ None
-  blocks_push [] e h n = ap (λ q. cond q (Some e.bytes) None) h
-  blocks_push (x ∷ xs) e h m = elim (holds o k x) as (λ q. cond q (Some x.bytes) (blocks o xs k) ≡ None → cond q (Some x.bytes) (blocks o (xs ++ e ∷ []) k) ≡ None) [ true ↦ λ n. n | false ↦ λ n. blocks_push xs e h n ] m
+-- the bytes in a slot
+abbrev pub held : Slot → Option (List ℕ)
+held None = None
+held (Some e) = Some e.bytes
 
-  pub blocks_miss : (xs : List Slot) (i : ℕ) (d : Slot) → i < length xs → holds o k (get_or xs i d) ≡ false → blocks o (take i xs) k ≡ None → blocks o (take (i + 1) xs) k ≡ None
-  blocks_miss xs i d l h n = ap (λ ys. blocks o ys k) (take_more xs i d l) ∙ blocks_push (take i xs) (get_or xs i d) h n
+pub blocks_step : (o : Cache) (k : ℕ) (y : Slot) (ys : List Slot) → blocks o (y ∷ ys) k ≡ cond (holds o k y) (held y) (blocks o ys k)
+blocks_step o k None ys = refl
+blocks_step o k (Some e) ys = refl
 
-  pub blocks_hit : (xs : List Slot) (i : ℕ) (d : Slot) → i < length xs → holds o k (get_or xs i d) ≡ true → blocks o (take i xs) k ≡ None → blocks o xs k ≡ Some (get_or xs i d).bytes
-  blocks_hit [] i d l h n = absurd (omega arith)
-  blocks_hit (x ∷ xs) zero d l h n = ap (λ q. cond q (Some x.bytes) (blocks o xs k)) h
-  blocks_hit (x ∷ xs) (suc i) d l h m = elim (holds o k x) as (λ q. cond q (Some x.bytes) (blocks o (take i xs) k) ≡ None → cond q (Some x.bytes) (blocks o xs k) ≡ Some (get_or xs i d).bytes) [ true ↦ λ n. absurd (some≢none n) | false ↦ λ n. blocks_hit xs i d (omega arith) h n ] m
+-- no element passes
+pub none_passes : {X : Type 0} (p : X → Bool) (xs : List X) → position p xs ≡ None → (i : ℕ) (d : X) → i < length xs → p (get_or xs i d) ≡ false
+none_passes {X} p xs h i d l = go (ltb (position_or_len p xs) (length xs)) refl h
+  where
+    go : (q : Bool) → ltb (position_or_len p xs) (length xs) ≡ q → ◌≡◌ {A = Option ℕ} (cond q (Some (position_or_len p xs)) None) None → p (get_or xs i d) ≡ false
+    go true e z = absurd (none≢some (sym z))
+    go false e z = fails_before_first p xs i d (let b = ltb-false (position_or_len p xs) (length xs) e in omega arith)
 
-  -- none in all, so none in the first ones
-  pub blocks_first : (xs : List Slot) (i : ℕ) → blocks o xs k ≡ None → blocks o (take i xs) k ≡ None
-  blocks_first xs zero n = refl
-  blocks_first [] (suc i) n = refl
-  blocks_first (x ∷ xs) (suc i) m = elim (holds o k x) as (λ q. cond q (Some x.bytes) (blocks o xs k) ≡ None → cond q (Some x.bytes) (blocks o (take i xs) k) ≡ None) [ true ↦ λ n. n | false ↦ λ n. blocks_first xs i n ] m
+module _ (o : Cache) (k : ℕ) (xs : List Slot) where
+  pub nowhere : position (holds o k) xs ≡ None → blocks o xs k ≡ None
+  nowhere h = found_nowhere (λ ys. blocks o ys k) (holds o k) held None refl (blocks_step o k) xs None (λ i l. none_passes (holds o k) xs h i None l)
+
+  -- a slot in which the block is found
+  pub record Found (i : ℕ) : Type 0 where
+    pub within : i < length xs
+    pub has : (d : Slot) → holds o k (get_or xs i d) ≡ true
+    pub first : blocks o (take i xs) k ≡ None
+    pub bytes : (d : Slot) → blocks o xs k ≡ held (get_or xs i d)
+
+  pub found : (i : ℕ) → position (holds o k) xs ≡ Some i → Found i
+  found i h =
+      let p = position-Some (holds o k) xs i None h in
+      record {
+        within = p.0;
+        has = λ d. (position-Some (holds o k) xs i d h).1;
+        first = found_nowhere (λ ys. blocks o ys k) (holds o k) held None refl (blocks_step o k) (take i xs) None (λ j l. let w : length (take i xs) ≡ i = length-take-le i xs (omega arith) in let a : j < i = omega arith in ap (holds o k) (get_or-take i xs j None a) ∙ p.2 j a);
+        bytes = λ d. let q = position-Some (holds o k) xs i d h in found_at (λ ys. blocks o ys k) (holds o k) held None refl (blocks_step o k) xs i d q.0 q.2 q.1;
+      }

@@ -1,18 +1,47 @@
 -- The stripes of a cache, found slot by slot. Assumes nothing.
-use Rattle.std.proofs.Common.{◌≡◌, ℕ, ◌+◌, ◌<◌, ◌≤◌, Bool, true, false, cond, ◌&&◌, eqb, ltb, leb, ◌⊎◌, List, [], ◌∷◌, ◌++◌, length, get_or, take, set, is_some, Some, None, Option, sym, refl, ap, ◌∙◌, subst, inl, inr, ⊎_elim, arith, get_or-set_other, get_or-set_same}
+use Rattle.std.proofs.Common.{min, ◌≡◌, ℕ, ◌+◌, ◌<◌, ◌≤◌, Bool, true, false, cond, ◌&&◌, eqb, leb, ◌⊎◌, List, [], ◌∷◌, length, get_or, take, set, is_some, Some, None, Option, sym, refl, ap, ◌∙◌, subst, inl, inr, ⊎_elim, arith, get_or-set_other, get_or-set_same}
 use native.Mathlib.Decide.{ℕ_discrete}
-use Rattle.std.proofs.lemmas.List.{take_more, take_all, get_or-take, length-take-le}
-use Rattle.std.proofs.lemmas.Bool.{false≢true, and_parts, and_from, and_cases, eqb-true, eq-eqb, le-leb, lt-leb, leb-true, leb-false, ltb-true, ltb-false, cases_Bool, cases_lt}
+use Rattle.std.proofs.lemmas.List.{get_or-take, length-take-le}
+use Rattle.std.proofs.lemmas.Bool.{false≢true, and_parts, and_from, eqb-true, eq-eqb, le-leb, lt-leb, leb-true, cases_Bool, cases_lt}
 use Rattle.std.specs.Option.{option_map}
+use Rattle.std.specs.List.{filter, filter_map, cons_option, fold, reduce}
 use Rattle.geometry.specs.Places.{located}
 use Rattle.geometry.specs.declared.place.Location.{Location}
-use Rattle.cache.specs.declared.slot.Owner.{Owner}
-use Rattle.cache.specs.declared.slot.Slot.{Slot}
+use Rattle.cache.specs.declared.slot.Cache.{Cache}
+use Rattle.cache.specs.declared.slot.CachedBlock.{CachedBlock}
 use Rattle.cache.specs.Contents.{Blocks, one_if}
 use Rattle.cache.specs.Stripes.{stripe_of_block, HasStripe, Lowest, Listed}
-use Rattle.cache.specs.Slots.{same, holds, blocks}
-use Rattle.cache.specs.Searches.{slot_stripe, LowestFrom, lower}
+use Rattle.cache.specs.Slots.{Slot, same, blocks}
+use Rattle.cache.specs.Searches.{slot_stripe, LowestFrom}
 use Rattle.cache.proofs.Places.{number_from_place, none≢some, some_injective}
+
+-- a number of a list, and the least of them
+abbrev pub Among : List ℕ → ℕ → Type 0
+Among [] s = ⊥
+Among (y ∷ ys) s = (y ≡ s) ⊎ Among ys s
+
+record Least (a : ℕ) (ys : List ℕ) (t : ℕ) : Type 0 where
+  pub first : t ≤ a
+  pub others : (s : ℕ) → Among ys s → t ≤ s
+  pub one : (t ≡ a) ⊎ Among ys t
+
+least : (a : ℕ) (ys : List ℕ) → Least a ys (fold min a ys)
+least a [] = record { first = omega arith; others = λ s z. elim z [ ]; one = inl refl }
+least a (y ∷ ys) =
+    let r = least (min a y) ys in
+    record {
+      first = let f = r.first in omega arith;
+      others = λ s z. ⊎_elim (λ e. let f = r.first in omega arith) (λ w. r.others s w) z;
+      one = ⊎_elim (λ e. ⊎_elim (λ l. inl (let f : min a y ≡ a = omega arith in e ∙ f)) (λ l. inr (inl (let f : min a y ≡ y = omega arith in sym (e ∙ f)))) (cases_lt a y)) (λ w. inr (inr w)) r.one;
+    }
+
+-- the least of the numbers from n on of which P holds
+lowest_of : (P : ℕ → Type 0) (n : ℕ) (ys : List ℕ) → ((s : ℕ) → Among ys s → (n ≤ s) × P s) → ((s : ℕ) → P s → n ≤ s → Among ys s) → LowestFrom P n (reduce min ys)
+lowest_of P n [] from to = λ s z. ⊎_elim (λ l. l) (λ l. elim (to s z l) [ ]) (cases_lt s n)
+lowest_of P n (y ∷ ys) from to =
+    let r = least y ys in
+    let one = ⊎_elim (λ (e : fold min y ys ≡ y). subst (λ (i : ℕ). (n ≤ i) × P i) (sym e) (from y (inl refl))) (λ w. from (fold min y ys) (inr w)) r.one in
+    (one.0, one.1, λ s z l. ⊎_elim (λ e. let f = r.first in omega arith) (λ w. r.others s w) (to s z l))
 
 -- a slot has number s
 module _ {A : Type 0} (g : A → Option ℕ) where
@@ -20,44 +49,41 @@ module _ {A : Type 0} (g : A → Option ℕ) where
   Any [] s = ⊥
   Any (e ∷ es) s = (g e ≡ Some s) ⊎ Any es s
 
-  any_push : (xs : List A) (e : A) (s : ℕ) → Any (xs ++ e ∷ []) s → Any xs s ⊎ (g e ≡ Some s)
-  any_push [] e s (inl h) = inr h
-  any_push [] e s (inr h) = elim h [ ]
-  any_push (x ∷ xs) e s (inl h) = inl (inl h)
-  any_push (x ∷ xs) e s (inr h) = ⊎_elim (λ z. inl (inr z)) inr (any_push xs e s h)
+  -- the numbers from n on
+  abbrev pub numbers_from : ℕ → List A → List ℕ
+  numbers_from n xs = filter (λ s. leb n s) (filter_map g xs)
 
-  any_old : (xs : List A) (e : A) (s : ℕ) → Any xs s → Any (xs ++ e ∷ []) s
-  any_old [] e s h = elim h [ ]
-  any_old (x ∷ xs) e s (inl h) = inl h
-  any_old (x ∷ xs) e s (inr h) = inr (any_old xs e s h)
-
-  any_new : (xs : List A) (e : A) (s : ℕ) → g e ≡ Some s → Any (xs ++ e ∷ []) s
-  any_new [] e s h = inl h
-  any_new (x ∷ xs) e s h = inr (any_new xs e s h)
-
-  -- one slot more
-  module _ (n : ℕ) (xs : List A) (e : A) where
-    step : (o r : Option ℕ) → g e ≡ o → LowestFrom (Any xs) n r → LowestFrom (Any (xs ++ e ∷ [])) n (lower n o r)
-    step None None p c = λ s z. ⊎_elim (c s) (λ q. absurd (none≢some (sym p ∙ q))) (any_push xs e s z)
-    step None (Some t) p c = (c.0, any_old xs e t c.1, λ s z l. ⊎_elim (λ y. c.2 s y l) (λ q. absurd (none≢some (sym p ∙ q))) (any_push xs e s z))
-    step (Some u) None p c = go (leb n u) refl
+  module _ (n : ℕ) (x : A) (xs : List A) (s : ℕ) where
+    more_any : (Among (numbers_from n xs) s → (n ≤ s) × Any xs s) → (o : Option ℕ) → g x ≡ o → Among (filter (λ (i : ℕ). leb n i) (cons_option o (filter_map g xs))) s → (n ≤ s) × Any (x ∷ xs) s
+    more_any ih None p = λ z. let r = ih z in (r.0, inr r.1)
+    more_any ih (Some u) p = go (leb n u) refl
       where
-        go : (q : Bool) → leb n u ≡ q → LowestFrom (Any (xs ++ e ∷ [])) n (cond q (Some u) None)
-        go true h = (leb-true n u h, any_new xs e u p, λ s z l. ⊎_elim (λ y. let v = c s y in absurd (omega arith)) (λ q. let v : u ≡ s = some_injective (sym p ∙ q) in omega arith) (any_push xs e s z))
-        go false h = λ s z. ⊎_elim (c s) (λ q. let v : u ≡ s = some_injective (sym p ∙ q) in let w = leb-false n u h in omega arith) (any_push xs e s z)
-    step (Some u) (Some t) p c = go (leb n u && ltb u t) refl
-      where
-        go : (q : Bool) → (leb n u && ltb u t) ≡ q → LowestFrom (Any (xs ++ e ∷ [])) n (cond q (Some u) (Some t))
-        go true h =
-            let a = leb-true n u (and_parts (leb n u) (ltb u t) h).0 in
-            let b = ltb-true u t (and_parts (leb n u) (ltb u t) h).1 in
-            (a, any_new xs e u p, λ s z l. ⊎_elim (λ y. let v = c.2 s y l in omega arith) (λ q. let v : u ≡ s = some_injective (sym p ∙ q) in omega arith) (any_push xs e s z))
-        go false h = (c.0, any_old xs e t c.1, λ s z l. ⊎_elim (λ y. c.2 s y l) (λ q. let v : u ≡ s = some_injective (sym p ∙ q) in ⊎_elim (λ x. let w = leb-false n u x in omega arith) (λ x. let w = ltb-false u t x in omega arith) (and_cases (leb n u) (ltb u t) h)) (any_push xs e s z))
+        go : (q : Bool) → leb n u ≡ q → Among (cond q (u ∷ numbers_from n xs) (numbers_from n xs)) s → (n ≤ s) × Any (x ∷ xs) s
+        go true h (inl e) = let l = leb-true n u h in (omega arith, inl (p ∙ ap Some e))
+        go true h (inr z) = let r = ih z in (r.0, inr r.1)
+        go false h z = let r = ih z in (r.0, inr r.1)
 
-  pub lowest_turn : (n : ℕ) (xs : List A) (i : ℕ) (d : A) (o r r' : Option ℕ) → i < length xs → o ≡ g (get_or xs i d) → r' ≡ lower n o r → LowestFrom (Any (take i xs)) n r → LowestFrom (Any (take (i + 1) xs)) n r'
-  lowest_turn n xs i d o r r' l p q c =
-      subst (λ z. LowestFrom (Any (take (i + 1) xs)) n z) (sym q)
-      (subst (λ ys. LowestFrom (Any ys) n (lower n o r)) (sym (take_more xs i d l)) (step n (take i xs) (get_or xs i d) o r (sym p) c))
+    more_among : Among (numbers_from n xs) s → (o : Option ℕ) → Among (filter (λ (i : ℕ). leb n i) (cons_option o (filter_map g xs))) s
+    more_among z None = z
+    more_among z (Some u) = go (leb n u)
+      where
+        go : (q : Bool) → Among (cond q (u ∷ numbers_from n xs) (numbers_from n xs)) s
+        go true = inr z
+        go false = z
+
+  among_any : (n : ℕ) (xs : List A) (s : ℕ) → Among (numbers_from n xs) s → (n ≤ s) × Any xs s
+  among_any n [] s z = elim z [ ]
+  among_any n (x ∷ xs) s z = more_any n x xs s (among_any n xs s) (g x) refl z
+
+  any_among : (n : ℕ) (xs : List A) (s : ℕ) → Any xs s → n ≤ s → Among (numbers_from n xs) s
+  any_among n [] s z l = elim z [ ]
+  any_among n (x ∷ xs) s (inl e) l =
+      subst (λ o. Among (filter (λ (i : ℕ). leb n i) (cons_option o (filter_map g xs))) s) (sym e)
+      (subst (λ q. Among (cond q (s ∷ numbers_from n xs) (numbers_from n xs)) s) (sym (le-leb n s l)) (inl refl))
+  any_among n (x ∷ xs) s (inr z) l = more_among n x xs s (any_among n xs s z l) (g x)
+
+  lowest_any : (n : ℕ) (xs : List A) → LowestFrom (Any xs) n (reduce min (numbers_from n xs))
+  lowest_any n xs = lowest_of (Any xs) n (numbers_from n xs) (among_any n xs) (any_among n xs)
 
   -- how many slots have a number from n on
   abbrev pub reaches : ℕ → Option ℕ → Bool
@@ -85,7 +111,7 @@ module _ {A : Type 0} (g : A → Option ℕ) where
   above_less n m (e ∷ es) h = let a = head_less n m (g e) h in let b = above_less n m es h in omega arith
 
   -- the slot of t counts no more from t + 1 on
-  pub above_falls : (n t : ℕ) (es : List A) → n ≤ t → Any es t → above (t + 1) es + 1 ≤ above n es
+  above_falls : (n t : ℕ) (es : List A) → n ≤ t → Any es t → above (t + 1) es + 1 ≤ above n es
   above_falls n t [] h c = elim c [ ]
   above_falls n t (x ∷ es) h (inl c) =
       let a : one_if (reaches n (g x)) ≡ 1 = ap (λ o. one_if (reaches n o)) c ∙ ap one_if (le-leb n t h) in
@@ -95,33 +121,40 @@ module _ {A : Type 0} (g : A → Option ℕ) where
   above_falls n t (x ∷ es) h (inr c) = let a = head_less n (t + 1) (g x) (omega arith) in let b = above_falls n t es h c in omega arith
 
 -- a stripe of the cache is that of a slot
-module _ (m n : ℕ) (o : Owner) where
-  slot_of_stripe : (e : Slot) (s : ℕ) → slot_stripe m n o e ≡ Some s → (same e.owner o ≡ true) × (stripe_of_block m n e.block ≡ Some s)
-  slot_of_stripe e s = elim (same e.owner o) as (λ q. cond q (stripe_of_block m n e.block) None ≡ Some s → (q ≡ true) × (stripe_of_block m n e.block ≡ Some s)) [ true ↦ λ h. (refl, h) | false ↦ λ h. absurd (none≢some h) ]
+module _ (m n : ℕ) (o : Cache) where
+  slot_of_stripe : (e : CachedBlock) (s : ℕ) → slot_stripe m n o (Some e) ≡ Some s → (same e.cache o ≡ true) × (stripe_of_block m n e.block ≡ Some s)
+  slot_of_stripe e s = elim (same e.cache o) as (λ q. cond q (stripe_of_block m n e.block) None ≡ Some s → (q ≡ true) × (stripe_of_block m n e.block ≡ Some s)) [ true ↦ λ h. (refl, h) | false ↦ λ h. absurd (none≢some h) ]
 
-  pub has_from_any : (xs : List Slot) (s : ℕ) → Any (slot_stripe m n o) xs s → HasStripe m n (blocks o xs) s
+  has_from_any : (xs : List Slot) (s : ℕ) → Any (slot_stripe m n o) xs s → HasStripe m n (blocks o xs) s
   has_from_any [] s h = elim h [ ]
-  has_from_any (e ∷ xs) s (inl h) =
+  has_from_any (None ∷ xs) s (inl h) = absurd (none≢some h)
+  has_from_any (None ∷ xs) s (inr h) = has_from_any xs s h
+  has_from_any (Some e ∷ xs) s (inl h) =
       let p = slot_of_stripe e s h in
-      (e.block, ap (λ q. is_some (cond q (Some e.bytes) (blocks o xs e.block))) (and_from (same e.owner o) (eqb e.block e.block) p.0 (eq-eqb e.block e.block refl)), p.1)
-  has_from_any (e ∷ xs) s (inr h) =
+      (e.block, ap (λ q. is_some (cond q (Some e.bytes) (blocks o xs e.block))) (and_from (same e.cache o) (eqb e.block e.block) p.0 (eq-eqb e.block e.block refl)), p.1)
+  has_from_any (Some e ∷ xs) s (inr h) =
       let z = has_from_any xs s h in
-      (z.0, elim (holds o z.0 e) as (λ q. is_some (cond q (Some e.bytes) (blocks o xs z.0)) ≡ true) [ true ↦ refl | false ↦ z.1 ], z.2)
+      (z.0, elim (same e.cache o && eqb e.block z.0) as (λ q. is_some (cond q (Some e.bytes) (blocks o xs z.0)) ≡ true) [ true ↦ refl | false ↦ z.1 ], z.2)
 
-  pub any_from_has : (xs : List Slot) (s : ℕ) → HasStripe m n (blocks o xs) s → Any (slot_stripe m n o) xs s
+  any_from_has : (xs : List Slot) (s : ℕ) → HasStripe m n (blocks o xs) s → Any (slot_stripe m n o) xs s
   any_from_has [] s h = absurd (false≢true h.1)
-  any_from_has (e ∷ xs) s h =
+  any_from_has (None ∷ xs) s h = inr (any_from_has xs s h)
+  any_from_has (Some e ∷ xs) s h =
       ⊎_elim
-      (λ q. let p = and_parts (same e.owner o) (eqb e.block h.0) q in inl (ap (λ z. cond z (stripe_of_block m n e.block) None) p.0 ∙ ap (stripe_of_block m n) (eqb-true e.block h.0 p.1) ∙ h.2))
+      (λ q. let p = and_parts (same e.cache o) (eqb e.block h.0) q in inl (ap (λ z. cond z (stripe_of_block m n e.block) None) p.0 ∙ ap (stripe_of_block m n) (eqb-true e.block h.0 p.1) ∙ h.2))
       (λ q. inr (any_from_has xs s (h.0, sym (ap (λ z. is_some (cond z (Some e.bytes) (blocks o xs h.0))) q) ∙ h.1, h.2)))
-      (cases_Bool (holds o h.0 e))
+      (cases_Bool (same e.cache o && eqb e.block h.0))
 
   lowest_same : (xs : List Slot) (f : ℕ) (r : Option ℕ) → LowestFrom (Any (slot_stripe m n o) xs) f r → LowestFrom (HasStripe m n (blocks o xs)) f r
   lowest_same xs f None c = λ s z. c s (any_from_has xs s z)
   lowest_same xs f (Some t) c = (c.0, has_from_any xs t c.1, λ s z l. c.2 s (any_from_has xs s z) l)
 
-  pub lowest_all : (xs : List Slot) (f i : ℕ) (r : Option ℕ) → length xs ≤ i → LowestFrom (Any (slot_stripe m n o) (take i xs)) f r → LowestFrom (HasStripe m n (blocks o xs)) f r
-  lowest_all xs f i r l c = lowest_same xs f r (subst (λ ys. LowestFrom (Any (slot_stripe m n o) ys) f r) (take_all i xs l) c)
+  pub lowest_stripe : (xs : List Slot) (f : ℕ) (r : Option ℕ) → r ≡ reduce min (numbers_from (slot_stripe m n o) f xs) → LowestFrom (HasStripe m n (blocks o xs)) f r
+  lowest_stripe xs f r e = lowest_same xs f r (subst (LowestFrom (Any (slot_stripe m n o) xs) f) (sym e) (lowest_any (slot_stripe m n o) f xs))
+
+-- after its lowest stripe from a number on, fewer slots have one
+pub stripes_fall : (m n : ℕ) (o : Cache) (xs : List Slot) (from t : ℕ) → LowestFrom (HasStripe m n (blocks o xs)) from (Some t) → above (slot_stripe m n o) (t + 1) xs + 1 ≤ above (slot_stripe m n o) from xs
+stripes_fall m n o xs from t h = above_falls (slot_stripe m n o) from t xs h.0 (any_from_has m n o xs t h.1)
 
 -- no stripe of the cache lies outside the array
 pub stripe_small : (m n : ℕ) → 3 ≤ m → (f : Blocks) (s : ℕ) → HasStripe m n f s → s < n

@@ -8,6 +8,10 @@ use Rattle.geometry.proofs.Numbers.{stripe_below, locates, numbers}
 pub none≢some : {A : Type 0} {x : A} → ◌≡◌ {A = Option A} None (Some x) → ⊥
 none≢some p = let z : ◌≡◌ {A = ℕ} 0 1 = cc in omega arith
 
+pub cond_none : {A : Type 0} (q : Bool) → ◌≡◌ {A = Option A} (cond q None None) None
+cond_none true = refl
+cond_none false = refl
+
 pub some_injective : {A : Type 0} {x y : A} → Some x ≡ Some y → x ≡ y
 some_injective {x = x} p = ap (λ o. unwrap_or o x) p
 

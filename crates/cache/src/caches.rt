@@ -1,7 +1,7 @@
 // The two write caches: 32 slots in one array, so that nothing is allocated.
 ghost use Rattle.std.specs.Prelude.{◌≡◌, true, length};
 ghost use Rattle.cache.specs.Slots.{each_once};
-ghost use Rattle.cache.specs.declared.slot.Owner.TheVariants.{Buffering, Destaging};
+ghost use Rattle.cache.specs.declared.slot.Cache.TheVariants.{Buffering, Destaging};
 
 use crate::slot::{SLOTS, Slot};
 

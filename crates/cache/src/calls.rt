@@ -1,20 +1,20 @@
 // The calls on the caches.
-ghost use Rattle.std.specs.Prelude.{◌≡◌, ℕ, true, false, [], is_some, Some, None, MatchBool, MatchOption, MatchResult, slice_index_or};
-ghost use Rattle.std.specs.Option.{unwrap_or};
+ghost use Rattle.std.specs.Prelude.{◌≡◌, ℕ, true, false, is_some, Some, None, MatchBool, MatchOption, MatchResult, slice_index_or};
 ghost use Rattle.geometry.specs.Counts.{members_of, blocks_of};
 ghost use Rattle.cache.specs.Contents.{empty as no_contents, no_blocks, no_slot_for, put_into, newest, exchanged};
 ghost use Rattle.cache.specs.Stripes.{Listed, Lowest, by_position, stripe_freed};
 ghost use Rattle.cache.specs.Sharing.{Shared};
+ghost use Rattle.cache.specs.Slots.{blocks_in};
 ghost use Rattle.cache.specs.Meaning.{contents, listed};
 
 use crate::caches::{Caches, NoFreeSlot};
 use crate::change::{exchange, free_slots_of};
 use crate::list::StripeList;
-use crate::positions::copy_stripe;
-use crate::search::{free_slot, owns_none, slot_of, slots_owned};
-use crate::slot::{BLOCK_BYTES, Owner, SLOTS, Slot};
-use crate::stripes::{all_stripes, next_stripe};
-use geometry::shape::{MOST_MEMBERS, Shape};
+use crate::search::belongs;
+use crate::slot::{BLOCK_BYTES, Cache, CachedBlock, MOST_POSITIONS, SLOTS};
+use geometry::place::Location;
+use geometry::shape::Shape;
+use std::array;
 
 impl Caches {
     /// Both caches empty.
@@ -22,11 +22,7 @@ impl Caches {
         ensures { contents result ≡ no_contents }
     {
         Caches {
-            slots: [Slot {
-                owner: Owner::Free,
-                block: 0,
-                bytes: [0; BLOCK_BYTES],
-            }; SLOTS],
+            slots: [None; SLOTS],
         }
     }
 
@@ -37,18 +33,12 @@ impl Caches {
             (λ _. (no_slot_for block (contents self.old) ≡ false) × (contents self.new ≡ put_into block bytes.now (contents self.old)))
             (λ e. (no_slot_for block (contents self.old) ≡ true) × (contents self.new ≡ contents self.old) × (e.block ≡ block)) }
     {
-        let i = match slot_of(&self.slots, Owner::Buffering, block) {
-            Some(i) => i,
-            None => match free_slot(&self.slots) {
-                Some(i) => i,
-                None => return Err(NoFreeSlot { block }),
-            },
-        };
-        self.slots[i] = Slot {
-            owner: Owner::Buffering,
+        let slot = self.slot_for(block).ok_or(NoFreeSlot { block })?;
+        self.slots[slot] = Some(CachedBlock {
+            cache: Cache::Buffering,
             block,
             bytes: *bytes,
-        };
+        });
         Ok(())
     }
 
@@ -56,21 +46,15 @@ impl Caches {
     pub fn find(&self, block: usize) -> Option<&[u8; BLOCK_BYTES]>
         ensures { MatchOption result (newest block (contents self.now) ≡ None) (λ x. newest block (contents self.now) ≡ Some x.now) }
     {
-        let slot = match slot_of(&self.slots, Owner::Buffering, block) {
-            Some(slot) => slot,
-            None => match slot_of(&self.slots, Owner::Destaging, block) {
-                Some(slot) => slot,
-                None => return None,
-            },
-        };
-        Some(&self.slots[slot].bytes)
+        let buffered = self.get(Cache::Buffering, block);
+        buffered.or_else(|| self.get(Cache::Destaging, block))
     }
 
     /// Is the block in the buffering cache?
     pub fn is_buffered(&self, block: usize) -> bool
         ensures { result ≡ is_some ((contents self.now).buffering block) }
     {
-        slot_of(&self.slots, Owner::Buffering, block).is_some()
+        self.get(Cache::Buffering, block).is_some()
     }
 
     /// How many slots are free. With the blocks of both caches they are 32, always.
@@ -78,21 +62,14 @@ impl Caches {
         ensures value { result ≡ (contents self.now).free }
         ensures shared { Shared (contents self.now) }
     {
-        slots_owned(&self.slots, Owner::Free)
+        self.slots.iter().filter(|slot| slot.is_none()).count()
     }
 
-    /// Is the buffering cache empty?
-    pub fn buffering_is_empty(&self) -> bool
-        ensures { MatchBool result ((contents self.now).buffering ≡ no_blocks) ((k : ℕ) × (is_some ((contents self.now).buffering k) ≡ true)) }
+    /// Is this cache empty?
+    pub fn is_empty(&self, cache: Cache) -> bool
+        ensures { MatchBool result (blocks_in cache (contents self.now) ≡ no_blocks) ((k : ℕ) × (is_some (blocks_in cache (contents self.now) k) ≡ true)) }
     {
-        owns_none(&self.slots, Owner::Buffering)
-    }
-
-    /// Is the destaging cache empty?
-    pub fn destaging_is_empty(&self) -> bool
-        ensures { MatchBool result ((contents self.now).destaging ≡ no_blocks) ((k : ℕ) × (is_some ((contents self.now).destaging k) ≡ true)) }
-    {
-        owns_none(&self.slots, Owner::Destaging)
+        !self.slots.iter().any(|slot| belongs(slot, cache))
     }
 
     /// Empties both caches.
@@ -120,28 +97,26 @@ impl Caches {
     pub fn buffering_stripes(&self, shape: Shape) -> StripeList
         ensures { Listed (members_of shape) (blocks_of shape) (contents self.now).buffering (listed result) }
     {
-        all_stripes(&self.slots, Owner::Buffering, shape)
+        self.all_stripes(Cache::Buffering, shape)
     }
 
     /// The lowest stripe of the destaging cache.
     pub fn lowest_destaging_stripe(&self, shape: Shape) -> Option<usize>
         ensures { Lowest (members_of shape) (blocks_of shape) (contents self.now).destaging result }
     {
-        next_stripe(&self.slots, Owner::Destaging, shape, 0)
+        self.next_stripe(Cache::Destaging, shape, 0)
     }
 
-    /// Copies the blocks of a stripe of the destaging cache into `rows` by position, and tells in `held` which there are.
-    /// Rows of other positions stay.
+    /// The blocks of a stripe of the destaging cache, by position.
     pub fn destaging_blocks(
         &self,
         shape: Shape,
         stripe: usize,
-        held: &mut [bool; MOST_MEMBERS],
-        rows: &mut [[u8; BLOCK_BYTES]; MOST_MEMBERS],
-    )
-        ensures positions { (j : ℕ) → slice_index_or held.new j false ≡ is_some (by_position (members_of shape) (blocks_of shape) (contents self.now).destaging stripe j) }
-        ensures rows { (j : ℕ) → slice_index_or rows.new j [] ≡ unwrap_or (by_position (members_of shape) (blocks_of shape) (contents self.now).destaging stripe j) (slice_index_or rows.old j []) }
+    ) -> [Option<[u8; BLOCK_BYTES]>; MOST_POSITIONS]
+        ensures { (j : ℕ) → slice_index_or result j None ≡ by_position (members_of shape) (blocks_of shape) (contents self.now).destaging stripe j }
     {
-        copy_stripe(&self.slots, Owner::Destaging, shape, stripe, held, rows);
+        array::from_fn(|position| {
+            self.block_at(Cache::Destaging, shape, Location { stripe, position })
+        })
     }
 }

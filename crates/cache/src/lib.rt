@@ -8,7 +8,6 @@ pub mod caches;
 mod calls;
 mod change;
 pub mod list;
-mod positions;
 mod search;
 pub mod slot;
 mod stripes;

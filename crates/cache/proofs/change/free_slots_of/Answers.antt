@@ -1,18 +1,24 @@
-use Rattle.std.proofs.Common.{◌<◌, length, get_or, ap, ◌∙◌, arith}
+use Rattle.std.proofs.Common.{◌<◌, length, get_or, set, cond, None, sym, refl, ap, ◌∙◌, arith}
 use Rattle.geometry.specs.Counts.{members_of, blocks_of}
 use Rattle.cache.specs.Stripes.{in_stripe}
-use Rattle.cache.specs.Slots.{slot_freed, owner_freed}
-use Rattle.cache.proofs.Maps.{front_more, front_end}
+use Rattle.cache.specs.Slots.{slot_freed}
+use Rattle.cache.proofs.Maps.{map_turn, freed_if}
 use Rattle.cache.proofs.change.free_slots_of.Goals as goal
+use Rattle.cache.proofs.change.free_slots_of.Goals.{then-is_in_stripe, else-is_in_stripe}
 
-pub loop-i-preserved : goal.loop-i-preserved
-loop-i-preserved c =
+pub loop-slot-preserved : goal.loop-slot-preserved
+loop-slot-preserved c =
+    let m = members_of c.args.shape in
+    let n = blocks_of c.args.shape in
+    let s = c.args.stripe in
     let xs = c.args.slots.now in
-    let a = c.args.shape in
-    let l : c.loop-i.i < length xs = omega arith in
-    front_more (slot_freed (in_stripe (members_of a) (blocks_of a) c.args.stripe)) xs c.loop-i.slots _ c.loop-i.i _ l c.loop-i.invariant (ap (λ o. record { owner = o; block = (get_or c.loop-i.slots c.loop-i.i _).block; bytes = (get_or c.loop-i.slots c.loop-i.i _).bytes }) (c.after_freeing.ensures ∙ ap (λ q. owner_freed q (get_or c.loop-i.slots c.loop-i.i _).owner) c.is_in_stripe-freed.ensures))
-
-pub returns : goal.returns
-returns c =
-    let a = c.args.shape in
-    front_end (slot_freed (in_stripe (members_of a) (blocks_of a) c.args.stripe)) c.args.slots.now c.loop-i.slots c.loop-i.i (omega arith) c.loop-i.invariant
+    let ys = c.loop-slot.slots in
+    let i = c.loop-slot.slot-index in
+    let x = get_or ys i None in
+    let l : i < length xs = omega arith in
+    let f = freed_if m n s x ∙ ap (λ q. cond q None x) (sym c.is_in_stripe.ensures) in
+    let turn = map_turn (slot_freed (in_stripe m n s)) xs ys i x None l c.loop-slot.invariant refl in
+    elim c.if-is_in_stripe.branch [
+      | then-is_in_stripe w ↦ w.slots-is ∙ ap (set ys i) (sym (f ∙ ap (λ q. cond q None x) w.if-is_in_stripe.true)) ∙ turn
+      | else-is_in_stripe w ↦ w.slots-is ∙ ap (set ys i) (sym (f ∙ ap (λ q. cond q None x) w.if-is_in_stripe.false)) ∙ turn
+    ]

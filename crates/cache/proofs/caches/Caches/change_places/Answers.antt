@@ -1,4 +1,4 @@
-use Rattle.cache.specs.declared.slot.Owner.TheVariants.{Buffering, Destaging}
+use Rattle.cache.specs.declared.slot.Cache.TheVariants.{Buffering, Destaging}
 use Rattle.cache.proofs.Exchanges.{exchanged_length, exchanged_each_once, exchanged_contents}
 use Rattle.cache.proofs.caches.Caches.change_places.Goals as goal
 

@@ -1,5 +1,5 @@
 use Rattle.geometry.specs.Counts.{members_of, blocks_of}
-use Rattle.cache.specs.declared.slot.Owner.TheVariants.{Destaging}
+use Rattle.cache.specs.declared.slot.Cache.TheVariants.{Destaging}
 use Rattle.cache.specs.Slots.{blocks}
 use Rattle.cache.proofs.Lowest.{lowest_from_zero}
 use Rattle.cache.proofs.caches.Caches.lowest_destaging_stripe.Goals as goal
