@@ -1,5 +1,5 @@
 -- The cases of a call: by state, by checks, by what the checks say. Assumes nothing.
-use Rattle.std.proofs.Common.{◌≡◌, ℕ, ◌<◌, ◌≤◌, Bool, true, false, cond, eqb, ltb, ◌⊎◌, Some, None, Ok, Err, Option, Result, sym, refl, subst, inl, inr, arith}
+use Rattle.std.proofs.Common.{◌≡◌, ℕ, ◌<◌, ◌≤◌, Bool, true, false, cond, eqb, ltb, ◌⊎◌, Some, None, Ok, Err, Option, Result, sym, refl, subst, inl, inr}
 use Rattle.std.proofs.lemmas.Bool.{ltb-true, eqb-true, leb-true, and_parts}
 use Rattle.std.specs.Option.{option_or}
 use Rattle.geometry.specs.Counts.{counts_allowed, members_allowed}
@@ -14,10 +14,7 @@ use Rattle.array_model.specs.declared.refusal.ArrayRefusal.{ArrayRefusal}
 use Rattle.array_model.specs.declared.refusal.ArrayRefusal.TheVariants.{NoBlock, WrongLength}
 
 pub ok≢err : {A : Type 0} {a : A} {e : ArrayRefusal} → ◌≡◌ {A = Result A ArrayRefusal} (Ok a) (Err e) → ⊥
-ok≢err p = let z : ◌≡◌ {A = ℕ} 0 1 = cc in omega arith
-
-pub some≢none : {A : Type 0} {x : A} → ◌≡◌ {A = Option A} (Some x) None → ⊥
-some≢none p = let z : ◌≡◌ {A = ℕ} 0 1 = cc in omega arith
+ok≢err p = cc
 
 module _ {A : Type 0} (s : Meaning) (r : Result A ArrayRefusal) (t : Meaning) where
   -- a declined call answers the refusal and leaves everything
@@ -61,18 +58,18 @@ module _ {A : Type 0} (s : Meaning) (r : Result A ArrayRefusal) (t : Meaning) wh
 
 pub second_none : {A : Type 0} (x y : Option A) → option_or x y ≡ None → y ≡ None
 second_none None y h = h
-second_none (Some x) y h = absurd (some≢none h)
+second_none (Some x) y h = cc
 
 pub first_none : {A : Type 0} (x y : Option A) → option_or x y ≡ None → x ≡ None
 first_none None y h = refl
-first_none (Some x) y h = absurd (some≢none h)
+first_none (Some x) y h = cc
 
 pub passed : {A : Type 0} (q : Bool) (e : A) → cond q None (Some e) ≡ None → q ≡ true
 passed true e h = refl
-passed false e h = absurd (some≢none h)
+passed false e h = cc
 
 pub unpassed : {A : Type 0} (q : Bool) (e : A) → cond q (Some e) None ≡ None → q ≡ false
-unpassed true e h = absurd (some≢none h)
+unpassed true e h = cc
 unpassed false e h = refl
 
 pub block_passed : (g : Geometry) (k n : ℕ) → block_checks g k n ≡ None → (k < block_count g) × (n ≡ 512)

@@ -1,5 +1,6 @@
 -- Destage, flush and close keep what is known. Assumes nothing.
-use Rattle.std.proofs.Common.{◌≡◌, ℕ, ◌<◌, true, ◌⊎◌, List, [], ◌∷◌, length, Some, None, Ok, Err, Option, Result, sym, refl, ap, ◌∙◌, subst, inl, inr, arith}
+use Rattle.std.proofs.Common.{◌≡◌, ℕ, ◌<◌, true, ◌⊎◌, List, [], ◌∷◌, length, Some, None, Ok, Err, Option, Result, sym, refl, ap, ◌∙◌, subst, inl, inr}
+use Rattle.std.proofs.lemmas.Option.{none-some}
 use Rattle.std.specs.Option as options
 use Rattle.std.specs.Result as results
 use Rattle.member_store.specs.Meaning as store
@@ -9,7 +10,6 @@ use Rattle.intent_log.specs.Meaning as intent
 use Rattle.intent_log.specs.Calls as log
 use Rattle.cache.specs.Contents.{empty, exchanged}
 use Rattle.cache.specs.Stripes.{Lowest, Listed, by_position, stripe_freed}
-use Rattle.cache.proofs.Places.{none≢some}
 use Rattle.stripe_work.specs.Stripe.{data_at}
 use Rattle.stripe_work.specs.Work.{or_else, destage_calls}
 use Rattle.array_model.specs.Meaning.{Meaning, array, in_state, named, Geometry, stripe_count, stripe}
@@ -107,17 +107,14 @@ module _ (g : Geometry) (f : Facts g) (b : Book) (s : Meaning) (i : StillReady g
       → NoBlocks g s.caches.buffering × NoBlocks g s.caches.destaging
   idle_in t None low (w, ls, h) = (no_buffered w ls h, lowest_none g f s.caches.destaging low)
     where
-      not_changed : {A : Type 0} (n : ℕ) → Idle ≡ Changed n → A
-      not_changed n e = let z : ◌≡◌ {A = ℕ} 0 1 = cc in absurd (omega arith)
-
       no_buffered : (w : List ℕ) → Listed g.members g.blocks s.caches.buffering w → ChangesCaches w s (Ok Idle) t → NoBlocks g s.caches.buffering
       no_buffered [] ls h = listed_none g f s.caches.buffering ls
       no_buffered (k ∷ ks) ls h =
           elim (checked s (Ok Idle) t (naming_check (k ∷ ks) s) (Performs (naming_actions (k ∷ ks) s) (Changed (puts (k ∷ ks) s)) Ready (exchanged s.caches) s (Ok Idle) t) h) [
-            | inl a ↦ not_changed (puts (k ∷ ks) s) a.1.0
+            | inl a ↦ absurd (cc (a.1.0))
             | inr a ↦ absurd (ok≢err a.2.0)
           ]
-  idle_in t (Some k) low h = let e : Idle ≡ Moved k = h.0 in let z : ◌≡◌ {A = ℕ} 0 1 = cc in absurd (omega arith)
+  idle_in t (Some k) low h = absurd (cc (h.0))
 
   pub idle : (t : Meaning) → Destages g s (Ok Idle) t → NoBlocks g s.caches.buffering × NoBlocks g s.caches.destaging
   idle t h =
@@ -181,8 +178,8 @@ module _ (g : Geometry) (f : Facts g) (b : Book) (s : Meaning) (i : StillReady g
         record_stands = i.ready.record_stands;
         right = λ k h. bar_right g f b s.members n on d full k h (i.ready.right k h);
         due = i.ready.due;
-        by_buffering = λ k j x h p e. absurd (none≢some (sym (nb k j h p) ∙ e));
-        by_destaging = λ k j x h p e. absurd (none≢some (sym (nd k j h p) ∙ e));
+        by_buffering = λ k j x h p e. absurd (none-some x (sym (nb k j h p) ∙ e));
+        by_destaging = λ k j x h p e. absurd (none-some x (sym (nd k j h p) ∙ e));
         last = λ k j h p.
             ap (λ (o : Option (List ℕ)). or_else o (or_else (s.caches.destaging (number g k j)) (data_at (stripe g k) n j))) (nb k j h p)
             ∙ ap (λ (o : Option (List ℕ)). or_else o (data_at (stripe g k) n j)) (nd k j h p)

@@ -28,8 +28,7 @@ use Rattle.array_model.specs.Calls.{Plain, Checked, PowersOn, zero_calls, format
 use Rattle.array_model.specs.Book.{Book, InBook, holding, zero_book, add_zeros, Since, told, booked, since, format, open_whole, step, finish}
 use Rattle.array_model.specs.declared.state.Progress.{Progress}
 use Rattle.array_model.specs.declared.state.State.TheVariants.{Down, Resync, Ready, Short}
-use Rattle.array_model.specs.declared.answer.Step.{Step}
-use Rattle.array_model.specs.declared.answer.Step.TheVariants.{Taken, NoneLeft}
+use Rattle.array_model.specs.declared.answer.TakenStripe.{TakenStripe}
 use Rattle.array_model.specs.declared.answer.ResyncCounts.{ResyncCounts}
 use Rattle.array_model.specs.declared.refusal.ArrayRefusal.{ArrayRefusal}
 use Rattle.array_model.specs.declared.refusal.ArrayRefusal.TheVariants.{Members, Log, Limits, WrongState, NoRecord, StripeLeft}
@@ -251,28 +250,28 @@ module _ (g : Geometry) (f : Facts g) (b : Book) (z : Since) (s : Meaning) (i : 
 
   -- STEP
 
-  step_done : (p : Progress) (k : ℕ) (r : Result Step ArrayRefusal) (t : Meaning) → InResyncing g b z p s → NextDue g s p (Some k) → Takes g p k s r t → Inv g b (since step r t z) t
+  step_done : (p : Progress) (k : ℕ) (r : Result (Option TakenStripe) ArrayRefusal) (t : Meaning) → InResyncing g b z p s → NextDue g s p (Some k) → Takes g p k s r t → Inv g b (since step r t z) t
   step_done p k (Ok a) t c x h =
       let d = accepted_devices (resync_calls (stripe g k) s.members) s.members t.members s.log t.log h.1 in
       let right = parity_right (stripe g k) s.members in
-      subst (λ (u : Step). Inv g b (told (Ok u) z) t) (sym h.0)
-      (subst (Inv g b (told (Ok (Taken k (not right))) z)) (sym h.2)
-      (subst (λ (l : intent.Meaning). InResyncing g b (told (Ok (Taken k (not right))) z) (taken p k right) (array (Resync (taken p k right)) s.caches t.members l)) (sym d.1)
+      subst (λ (u : Option TakenStripe). Inv g b (told (Ok u) z) t) (sym h.0)
+      (subst (Inv g b (told (Ok (Some (record { stripe = k; mended = not right }))) z)) (sym h.2)
+      (subst (λ (l : intent.Meaning). InResyncing g b (told (Ok (Some (record { stripe = k; mended = not right }))) z) (taken p k right) (array (Resync (taken p k right)) s.caches t.members l)) (sym d.1)
       (step_taken g f b z p s c k x t.members d.0 right)))
   step_done p k (Err e) t c x h =
       let d = refused_devices (resync_calls (stripe g k) s.members) s.members t.members s.log t.log e h.0 in
       subst (Inv g b z) (sym h.1) (subst (Crash g b t.members) (sym d.3) (step_cut g f b z p s c k x d.0 t.members d.2))
 
-  pub keep_step : (r : Result Step ArrayRefusal) (t : Meaning) → Steps g s r t → Inv g b (since step r t z) t
+  pub keep_step : (r : Result (Option TakenStripe) ArrayRefusal) (t : Meaning) → Steps g s r t → Inv g b (since step r t z) t
   keep_step r t h =
       in_resync s r t (λ q. InvIn g b z q s) (Inv g b (since step r t z) t) (StepsFrom g)
       (λ d. stay s r t (λ r t. Inv g b (since step r t z) t) (WrongState s.state) d i)
       (λ p c k e. go p c k.0 k.1 k.2)
       s.state refl i h
     where
-      go : (p : Progress) → InResyncing g b z p s → (o : Option ℕ) → NextDue g s p o → options.MatchOption o ((r ≡ Ok NoneLeft) × (t ≡ s)) (λ k. Takes g p k s r t) → Inv g b (since step r t z) t
+      go : (p : Progress) → InResyncing g b z p s → (o : Option ℕ) → NextDue g s p o → options.MatchOption o ((r ≡ Ok None) × (t ≡ s)) (λ k. Takes g p k s r t) → Inv g b (since step r t z) t
       go p c None x k =
-          subst (λ (u : Meaning). Inv g b (since step r u z) u) (sym k.1) (subst (λ (u : Result Step ArrayRefusal). Inv g b (told u z) s) (sym k.0) i)
+          subst (λ (u : Meaning). Inv g b (since step r u z) u) (sym k.1) (subst (λ (u : Result (Option TakenStripe) ArrayRefusal). Inv g b (told u z) s) (sym k.0) i)
       go p c (Some n) x k = step_done p n r t c x k
 
   -- FINISH

@@ -1,5 +1,6 @@
 -- Blocks by number and by stripe and position, in a cache and in a list of stripes. Assumes nothing.
 use Rattle.std.proofs.Common.{◌≡◌, ℕ, zero, suc, ◌-◌, ◌<◌, ◌≤◌, Bool, true, false, cond, ltb, List, [], ◌∷◌, length, get_or, is_some, Some, None, Option, sym, refl, ap, ◌∙◌, subst, inl, inr, arith}
+use Rattle.std.proofs.lemmas.Option.{none-some, same_Some}
 use Rattle.std.proofs.lemmas.Bool.{true≢false, ltb-true, lt-ltb, eq-eqb, ne_eqb, and_parts}
 use Rattle.std.proofs.lemmas.Nat.{div-mul-add, mod-mul-add, div-add-mod'}
 use Rattle.std.specs.Option.{option_map}
@@ -10,7 +11,6 @@ use Rattle.geometry.proofs.Numbers.{number_below, stripe_below, position_below}
 use Rattle.member_store.specs.Meaning as store
 use Rattle.cache.specs.Contents.{Blocks, Contents}
 use Rattle.cache.specs.Stripes.{stripe_of_block, in_stripe, is_number, HasStripe, Lowest, Listed, by_position, looked_up, stripe_freed}
-use Rattle.cache.proofs.Places.{none≢some, some_injective}
 use Rattle.array_model.specs.Meaning.{Meaning, named, Geometry, stripe_count, block_count, home, position}
 use Rattle.array_model.specs.Checks.{all_named}
 
@@ -57,8 +57,8 @@ module _ (g : Geometry) (f : Facts g) where
     where
       go : (q : Bool) → ltb k (block_count g) ≡ q
           → option_map (λ (p : Location). p.stripe) (cond q (Some (record { stripe = home g k; position = position g k })) None) ≡ Some s → (k < block_count g) × (home g k ≡ s)
-      go false e h = absurd (none≢some h)
-      go true e h = (ltb-true k (block_count g) e, some_injective h)
+      go false e h = absurd (none-some s h)
+      go true e h = (ltb-true k (block_count g) e, same_Some (home g k) s h)
 
   -- a cache by stripe and position
   pub by_number : (c : Blocks) (s j : ℕ) → s < stripe_count g → j < width g → by_position g.members g.blocks c s j ≡ c (number g s j)
@@ -79,7 +79,7 @@ module _ (g : Geometry) (f : Facts g) where
   freed_was s c k x = go (in_stripe g.members g.blocks s k)
     where
       go : (q : Bool) → cond q None (c.destaging k) ≡ Some x → c.destaging k ≡ Some x
-      go true e = absurd (none≢some e)
+      go true e = absurd (none-some x e)
       go false e = e
 
   has_stripe : (c : Blocks) (s j : ℕ) (x : List ℕ) → s < stripe_count g → j < width g → c (number g s j) ≡ Some x → HasStripe g.members g.blocks c s

@@ -1,6 +1,7 @@
 -- Steps and finish keep what is known of an array being resynchronized. Assumes nothing.
 use Rattle.std.proofs.Common.{◌≡◌, ℕ, zero, suc, ◌+◌, ◌<◌, ◌≤◌, Bool, true, false, not, ltb, List, [], ◌∷◌, length, Some, None, Ok, Option, sym, refl, ap, ◌∙◌, subst, inl, inr, add-one, arith}
 use native.Mathlib.Decide.{ℕ_discrete, dec_lt}
+use Rattle.std.proofs.lemmas.Option.{none-some}
 use Rattle.std.proofs.lemmas.Bool.{true≢false, ltb-true, lt-ltb, and_parts, and_cases}
 use Rattle.member_store.specs.Meaning as store
 use Rattle.member_store.specs.Meaning.{current, Version, In}
@@ -10,7 +11,6 @@ use Rattle.intent_log.specs.Meaning as intent
 use Rattle.intent_log.specs.Meaning.{Standing, MayStand}
 use Rattle.cache.specs.Contents.{one_if}
 use Rattle.cache.specs.Stripes.{count_below}
-use Rattle.cache.proofs.Places.{none≢some}
 use Rattle.stripe_work.specs.Stripe.{Stripe, data_at, RightParity}
 use Rattle.stripe_work.specs.Work.{or_else, resync_calls}
 use Rattle.stripe_work.specs.Outcomes as outcome
@@ -22,7 +22,6 @@ use Rattle.array_model.specs.Book.{Book, InBook, holding, Since, told}
 use Rattle.array_model.specs.Promise.{Consistent, HeldByBook}
 use Rattle.array_model.specs.declared.state.Progress.{Progress}
 use Rattle.array_model.specs.declared.state.State.TheVariants.{Resync, Ready}
-use Rattle.array_model.specs.declared.answer.Step.TheVariants.{Taken}
 use Rattle.array_model.proofs.Places.{Facts, width, number, num_home, num_position, num_back, home_below, position_below'}
 use Rattle.array_model.proofs.Inv.{On, has, Grows, Sized, stands, member_below, Known, BookSized, Crash, Sure, Calm, InResyncing, InReadiness, clean_right, crash_grows, clean_crash}
 use Rattle.array_model.proofs.Effects.{Mends, resync_stores, completed_grows, stopped_grows, stopped_on, completed_has, parity_sized, barrier_current, barrier_only, barrier_sized}
@@ -113,9 +112,9 @@ module _ (g : Geometry) (f : Facts g) (b : Book) (z : Since) (p : Progress) (s :
         sure = sure;
         record_stands = up;
         right = finish_consistent.right;
-        due = λ k j x h q e. absurd (none≢some (sym (i.calm.no_destaging k j h q) ∙ e));
-        by_buffering = λ k j x h q e. absurd (none≢some (sym (i.calm.no_buffered k j h q) ∙ e));
-        by_destaging = λ k j x h q e. absurd (none≢some (sym (i.calm.no_destaging k j h q) ∙ e));
+        due = λ k j x h q e. absurd (none-some x (sym (i.calm.no_destaging k j h q) ∙ e));
+        by_buffering = λ k j x h q e. absurd (none-some x (sym (i.calm.no_buffered k j h q) ∙ e));
+        by_destaging = λ k j x h q e. absurd (none-some x (sym (i.calm.no_destaging k j h q) ∙ e));
         last = λ k j h q.
             ap (λ (o : Option (List ℕ)). or_else o (or_else (s.caches.destaging (number g k j)) (data_at (stripe g k) n j))) (i.calm.no_buffered k j h q)
             ∙ ap (λ (o : Option (List ℕ)). or_else o (data_at (stripe g k) n j)) (i.calm.no_destaging k j h q) ∙ sym (held_at k j q);
@@ -207,7 +206,7 @@ module _ (g : Geometry) (f : Facts g) (b : Book) (z : Since) (p : Progress) (s :
       next_below : t + 1 ≤ stripe_count g
       next_below = let l : t < stripe_count g = inside in omega arith
 
-      pub step_taken : (r : Bool) → InResyncing g b (told (Ok (Taken t (not r))) z) (taken p t r) (array (Resync (taken p t r)) s.caches n s.log)
+      pub step_taken : (r : Bool) → InResyncing g b (told (Ok (Some (record { stripe = t; mended = not r }))) z) (taken p t r) (array (Resync (taken p t r)) s.caches n s.log)
       step_taken true = record {
         calm = calm (taken p t true);
         record_stands = i.record_stands;

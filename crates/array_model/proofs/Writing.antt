@@ -1,5 +1,6 @@
 -- Writes and reads keep what is known. Assumes nothing.
 use Rattle.std.proofs.Common.{◌≡◌, ℕ, ◌<◌, Bool, true, false, cond, eqb, ◌⊎◌, List, [], ◌∷◌, length, Some, None, Ok, Err, Option, sym, refl, ap, ◌∙◌, subst, inl, inr}
+use Rattle.std.proofs.lemmas.Option.{same_Some}
 use Rattle.std.specs.Option as options
 use Rattle.member_store.specs.Meaning as store
 use Rattle.member_store.specs.Meaning.{In}
@@ -8,7 +9,6 @@ use Rattle.device_calls.specs.Effects.{Every, Reading}
 use Rattle.device_calls.proofs.Left.{completed_reading}
 use Rattle.intent_log.specs.Meaning as intent
 use Rattle.cache.specs.Contents.{put_into, newest, no_slot_for}
-use Rattle.cache.proofs.Places.{some_injective}
 use Rattle.stripe_work.specs.Work.{or_else}
 use Rattle.array_model.specs.Meaning.{Meaning, array, with_caches, Geometry, stripe_count, held}
 use Rattle.array_model.specs.Work.{devices, Performs, Declines}
@@ -64,7 +64,7 @@ wrote_ready g b s k x len i = record {
   where
     by_put : (t j : ℕ) (v : List ℕ) → t < stripe_count g → j < width g → (q : Bool) → cond q (Some x) (s.caches.buffering (number g t j)) ≡ Some v
         → (v ≡ b.base (number g t j)) ⊎ In v (cond q (x ∷ b.list (number g t j)) (b.list (number g t j)))
-    by_put t j v h p true e = inr (inl (sym (some_injective e)))
+    by_put t j v h p true e = inr (inl (sym (same_Some x v e)))
     by_put t j v h p false e = i.by_buffering t j v h p e
 
     newer : (t j : ℕ) → t < stripe_count g → j < width g → (q : Bool)

@@ -1,13 +1,12 @@
 -- The book of accepted writes, fed with calls, their answers and, at a finish, what the blocks hold; and what is known
 -- since the latest accepted open.
-use Rattle.std.specs.Prelude.{◌≡◌, ℕ, Bool, cond, ◌⊎◌, List, [], ◌∷◌, is_ok, Ok, Err, Result, ◌==◌}
+use Rattle.std.specs.Prelude.{◌≡◌, ℕ, Bool, cond, ◌⊎◌, List, [], ◌∷◌, is_ok, Some, None, Ok, Err, Option, Result, ◌==◌}
 use Rattle.parity.specs.Xor.{zeros}
 use Rattle.member_store.specs.Meaning as store
 use Rattle.array_model.specs.Refusals.{refused_with}
 use Rattle.array_model.specs.Meaning.{Meaning, Geometry, held}
 use Rattle.array_model.specs.Calls.{Plain}
-use Rattle.array_model.specs.declared.answer.Step.{Step}
-use Rattle.array_model.specs.declared.answer.Step.TheVariants.{Taken, NoneLeft}
+use Rattle.array_model.specs.declared.answer.TakenStripe.{TakenStripe}
 use Rattle.array_model.specs.declared.answer.ResyncCounts.{ResyncCounts}
 use Rattle.array_model.specs.declared.answer.Destage.{Destage}
 use Rattle.array_model.specs.declared.answer.FlushCounts.{FlushCounts}
@@ -25,7 +24,7 @@ abbrev pub Reply : Call → Type 0
 Reply power_on = Plain
 Reply format = Plain
 Reply open_whole = Plain
-Reply step = Result Step ArrayRefusal
+Reply step = Result (Option TakenStripe) ArrayRefusal
 Reply finish = Result ResyncCounts ArrayRefusal
 Reply destage = Result Destage ArrayRefusal
 Reply flush = Result FlushCounts ArrayRefusal
@@ -92,9 +91,9 @@ pub record Since : Type 0 where
   pub members : store.Meaning
   pub mended : List ℕ
 
-abbrev pub told : Result Step ArrayRefusal → Since → Since
-told (Ok (Taken k m)) z = cond m (record { names = z.names; members = z.members; mended = k ∷ z.mended }) z
-told (Ok NoneLeft) z = z
+abbrev pub told : Result (Option TakenStripe) ArrayRefusal → Since → Since
+told (Ok (Some a)) z = cond a.mended (record { names = z.names; members = z.members; mended = a.stripe ∷ z.mended }) z
+told (Ok None) z = z
 told (Err e) z = z
 
 abbrev pub since : (c : Call) → Reply c → Meaning → Since → Since

@@ -1,7 +1,7 @@
 -- What each call of the array does, by its state: a relation between what the array meant before (s), the answer (r)
 -- and what it means after (t). The device calls and the changes of the log stand in their order, and power may go in
 -- each of them.
-use Rattle.std.specs.Prelude.{◌≡◌, ℕ, ◌+◌, Bool, cond, not, ◌&&◌, ◌⊎◌, List, [], ◌∷◌, ◌++◌, length, Ok, Err, Option, Result, ◌==◌, nat_lt}
+use Rattle.std.specs.Prelude.{◌≡◌, ℕ, ◌+◌, Bool, cond, not, ◌&&◌, ◌⊎◌, List, [], ◌∷◌, ◌++◌, length, Some, None, Ok, Err, Option, Result, ◌==◌, nat_lt}
 use Rattle.std.specs.Option as options
 use Rattle.std.specs.Result as results
 use Rattle.parity.specs.Xor.{zeros}
@@ -20,8 +20,7 @@ use Rattle.array_model.specs.Checks.{limits_check, open_checks, open_short_check
 use Rattle.array_model.specs.declared.state.Progress.{Progress}
 use Rattle.array_model.specs.declared.state.State.{State}
 use Rattle.array_model.specs.declared.state.State.TheVariants.{Fallen, Down, Resync, Ready, Short}
-use Rattle.array_model.specs.declared.answer.Step.{Step}
-use Rattle.array_model.specs.declared.answer.Step.TheVariants.{Taken, NoneLeft}
+use Rattle.array_model.specs.declared.answer.TakenStripe.{TakenStripe}
 use Rattle.array_model.specs.declared.answer.ResyncCounts.{ResyncCounts}
 use Rattle.array_model.specs.declared.answer.Destage.{Destage}
 use Rattle.array_model.specs.declared.answer.Destage.TheVariants.{Moved, Changed, Idle}
@@ -112,16 +111,16 @@ NextDue g s p r = LeastFrom (due g s) p.next r
 abbrev pub taken : Progress → ℕ → Bool → Progress
 taken p k right = record { next = k + 1; read = p.read + 1; mended = cond right p.mended (p.mended + 1) }
 
-abbrev pub Takes : Geometry → Progress → ℕ → Meaning → Result Step ArrayRefusal → Meaning → Type 0
+abbrev pub Takes : Geometry → Progress → ℕ → Meaning → Result (Option TakenStripe) ArrayRefusal → Meaning → Type 0
 Takes g p k s r t =
-    Performs (devices (resync_calls (stripe g k) s.members) ∷ []) (Taken k (not (parity_right (stripe g k) s.members)))
+    Performs (devices (resync_calls (stripe g k) s.members) ∷ []) (Some (record { stripe = k; mended = not (parity_right (stripe g k) s.members) }))
     (Resync (taken p k (parity_right (stripe g k) s.members))) s.caches s r t
 
-abbrev pub StepsFrom : Geometry → Progress → Meaning → Result Step ArrayRefusal → Meaning → Type 0
+abbrev pub StepsFrom : Geometry → Progress → Meaning → Result (Option TakenStripe) ArrayRefusal → Meaning → Type 0
 StepsFrom g p s r t =
-    (o : Option ℕ) × NextDue g s p o × options.MatchOption o ((r ≡ Ok NoneLeft) × (t ≡ s)) (λ k. Takes g p k s r t)
+    (o : Option ℕ) × NextDue g s p o × options.MatchOption o ((r ≡ Ok None) × (t ≡ s)) (λ k. Takes g p k s r t)
 
-abbrev pub Steps : Geometry → Meaning → Result Step ArrayRefusal → Meaning → Type 0
+abbrev pub Steps : Geometry → Meaning → Result (Option TakenStripe) ArrayRefusal → Meaning → Type 0
 Steps g s = InResync (StepsFrom g) s.state s
 
 -- FINISH: where no stripe is left, the members are barred, then the log is cleared.

@@ -1,4 +1,5 @@
 pub mod Refusals
+pub mod Text
 pub mod Meaning
 pub mod Work
 pub mod Checks

@@ -1,7 +1,6 @@
 -- The number and the layer of a refusal, and what it tells besides.
-use Rattle.std.specs.Prelude.{ℕ, Bool, false, Some, None, Ok, Err, Option, Result, ◌==◌}
+use Rattle.std.specs.Prelude.{ℕ, Bool, false, Some, None, Ok, Err, Option, Result, option_map, ◌==◌}
 use Rattle.member_store.specs.Refusals as store
-use Rattle.block_address.specs.declared.Address.{Address}
 use Rattle.intent_log.specs.Refusals as intent
 use Rattle.intent_log.specs.declared.refusal.Layer.{Layer}
 use Rattle.intent_log.specs.declared.refusal.Layer.TheVariants as log_layer
@@ -12,7 +11,7 @@ use Rattle.array_model.specs.declared.refusal.ArrayRefusal.TheVariants.{Members,
 use Rattle.array_model.specs.declared.refusal.BoxLayer.{BoxLayer}
 use Rattle.array_model.specs.declared.refusal.BoxLayer.TheVariants as layer_of
 use Rattle.array_model.specs.declared.refusal.Detail.{Detail}
-use Rattle.array_model.specs.declared.refusal.Detail.TheVariants.{Nothing, At, Counts, In, Number}
+use Rattle.array_model.specs.declared.refusal.Detail.TheVariants.{At, Counts, In, Number}
 
 abbrev pub number : ArrayRefusal → ℕ
 number (Members e) = store.number e
@@ -46,33 +45,29 @@ layer (StripeNamed k) = layer_of.Array
 layer (NoMember k) = layer_of.Array
 layer LogSpent = layer_of.Array
 
--- the place of a device call, where there was one
-abbrev pub where_told : Option Address → Detail
-where_told None = Nothing
-where_told (Some p) = At p
+-- what a log's refusal tells: the place of a device call, counts, a length, or nothing
+abbrev pub log_detail : LogRefusal → Option Detail
+log_detail (cause.Store e) = option_map At (store.place e)
+log_detail cause.Off = None
+log_detail (cause.TooSmall m n) = Some (Counts m n)
+log_detail cause.NoRecord = None
+log_detail (cause.WrongList n) = Some (Number n)
+log_detail cause.Spent = None
+log_detail (cause.DoesNotFit n) = Some (Number n)
 
-abbrev pub log_detail : LogRefusal → Detail
-log_detail (cause.Store e) = where_told (store.place e)
-log_detail cause.Off = Nothing
-log_detail (cause.TooSmall m n) = Counts m n
-log_detail cause.NoRecord = Nothing
-log_detail (cause.WrongList n) = Number n
-log_detail cause.Spent = Nothing
-log_detail (cause.DoesNotFit n) = Number n
-
-abbrev pub detail : ArrayRefusal → Detail
-detail (Members e) = where_told (store.place e)
+abbrev pub detail : ArrayRefusal → Option Detail
+detail (Members e) = option_map At (store.place e)
 detail (Log e) = log_detail e
-detail (Limits m n) = Counts m n
-detail (WrongState q) = In q
-detail NoRecord = Nothing
-detail (NoSlot k) = Number k
-detail (StripeLeft k) = Number k
-detail (NoBlock k) = Number k
-detail (WrongLength n) = Number n
-detail (StripeNamed k) = Number k
-detail (NoMember k) = Number k
-detail LogSpent = Nothing
+detail (Limits m n) = Some (Counts m n)
+detail (WrongState q) = Some (In q)
+detail NoRecord = None
+detail (NoSlot k) = Some (Number k)
+detail (StripeLeft k) = Some (Number k)
+detail (NoBlock k) = Some (Number k)
+detail (WrongLength n) = Some (Number n)
+detail (StripeNamed k) = Some (Number k)
+detail (NoMember k) = Some (Number k)
+detail LogSpent = None
 
 -- Was the call refused with this number?
 abbrev pub refused_with : {A : Type 0} → ℕ → Result A ArrayRefusal → Bool

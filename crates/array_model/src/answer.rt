@@ -29,7 +29,7 @@ pub enum Destage {
 }
 
 /// The counts that a flush answers.
-#[derive(Clone, Copy, PartialEq, Eq, Debug)]
+#[derive(Clone, Copy, PartialEq, Eq, Debug, Default)]
 pub struct FlushCounts {
     /// How many stripes were written, one from each cache counted twice.
     pub stripes: usize,

@@ -5,64 +5,28 @@
 ghost use Rattle.std.specs.Prelude.{◌≡◌};
 ghost use Rattle.array_model.specs.Promise.{CrashPromise};
 ghost use Rattle.array_model.specs.Witness.{RunsExist};
-ghost use Rattle.array_model.specs.Refusals.{number as number_of, layer as layer_of, detail as detail_of, where_told, log_detail, log_side};
+ghost use Rattle.array_model.specs.Refusals.{number as number_of, layer as layer_of, detail as detail_of};
 
 pub mod answer;
 pub mod refusal;
 pub mod state;
+mod text;
 
-use intent_log::refusal::{Layer, LogRefusal};
-use block_address::Address;
+use intent_log::refusal::LogRefusal;
 use refusal::{ArrayRefusal, BoxLayer, Detail};
 
 /// The crash promise, proved: along every run of calls over every layout, member store and log, wherever power goes,
 /// a finish leaves right parity everywhere and stored to named stripes only, each block holds its base or bytes on its
 /// list by the book, and so does what is read without one member.
-pub fn crash_promise() -> u8
+pub fn crash_promise()
     ensures { CrashPromise }
-{
-    0
-}
+{}
 
 /// Runs exist, proved: on every array within the limits one formats, opens, finishes, writes a block and closes, and the
 /// block then holds what was written.
-pub fn runs_exist() -> u8
+pub fn runs_exist()
     ensures { RunsExist }
-{
-    0
-}
-
-fn place_detail(place: Option<Address>) -> Detail
-    ensures { result ≡ where_told place }
-{
-    match place {
-        Some(at) => Detail::At(at),
-        None => Detail::Nothing,
-    }
-}
-
-fn log_detail(refusal: &LogRefusal) -> Detail
-    ensures { result ≡ log_detail refusal.now }
-{
-    match refusal {
-        LogRefusal::Store(e) => place_detail(e.place()),
-        LogRefusal::Off => Detail::Nothing,
-        LogRefusal::TooSmall(members, blocks) => Detail::Counts(*members, *blocks),
-        LogRefusal::NoRecord => Detail::Nothing,
-        LogRefusal::WrongList(len) => Detail::Number(*len),
-        LogRefusal::Spent => Detail::Nothing,
-        LogRefusal::DoesNotFit(len) => Detail::Number(*len),
-    }
-}
-
-fn log_layer(layer: Layer) -> BoxLayer
-    ensures { result ≡ log_side layer }
-{
-    match layer {
-        Layer::LogStore => BoxLayer::LogStore,
-        Layer::Log => BoxLayer::Log,
-    }
-}
+{}
 
 impl ArrayRefusal {
     /// The number by which users know the cause.
@@ -91,37 +55,36 @@ impl ArrayRefusal {
     {
         match self {
             ArrayRefusal::Members(_) => BoxLayer::Members,
-            ArrayRefusal::Log(e) => log_layer(e.layer()),
-            ArrayRefusal::Limits(_, _) => BoxLayer::Array,
-            ArrayRefusal::WrongState(_) => BoxLayer::Array,
-            ArrayRefusal::NoRecord => BoxLayer::Array,
-            ArrayRefusal::NoSlot(_) => BoxLayer::Array,
-            ArrayRefusal::StripeLeft(_) => BoxLayer::Array,
-            ArrayRefusal::NoBlock(_) => BoxLayer::Array,
-            ArrayRefusal::WrongLength(_) => BoxLayer::Array,
-            ArrayRefusal::StripeNamed(_) => BoxLayer::Array,
-            ArrayRefusal::NoMember(_) => BoxLayer::Array,
-            ArrayRefusal::LogSpent => BoxLayer::Array,
+            ArrayRefusal::Log(e) => e.layer().into(),
+            _ => BoxLayer::Array,
         }
     }
 
-    /// What the refusal tells besides its number and its layer.
-    pub fn detail(&self) -> Detail
+    /// What the refusal tells besides its number and its layer, if anything.
+    pub fn detail(&self) -> Option<Detail>
         ensures { result ≡ detail_of self.now }
     {
         match self {
-            ArrayRefusal::Members(e) => place_detail(e.place()),
-            ArrayRefusal::Log(e) => log_detail(e),
-            ArrayRefusal::Limits(members, blocks) => Detail::Counts(*members, *blocks),
-            ArrayRefusal::WrongState(state) => Detail::In(*state),
-            ArrayRefusal::NoRecord => Detail::Nothing,
-            ArrayRefusal::NoSlot(block) => Detail::Number(*block),
-            ArrayRefusal::StripeLeft(stripe) => Detail::Number(*stripe),
-            ArrayRefusal::NoBlock(block) => Detail::Number(*block),
-            ArrayRefusal::WrongLength(len) => Detail::Number(*len),
-            ArrayRefusal::StripeNamed(stripe) => Detail::Number(*stripe),
-            ArrayRefusal::NoMember(member) => Detail::Number(*member),
-            ArrayRefusal::LogSpent => Detail::Nothing,
+            ArrayRefusal::Members(e) | ArrayRefusal::Log(LogRefusal::Store(e)) => {
+                e.place().map(Detail::At)
+            }
+            ArrayRefusal::Limits(members, blocks)
+            | ArrayRefusal::Log(LogRefusal::TooSmall(members, blocks)) => {
+                Some(Detail::Counts(*members, *blocks))
+            }
+            ArrayRefusal::WrongState(state) => Some(Detail::In(*state)),
+            ArrayRefusal::NoSlot(number)
+            | ArrayRefusal::StripeLeft(number)
+            | ArrayRefusal::NoBlock(number)
+            | ArrayRefusal::WrongLength(number)
+            | ArrayRefusal::StripeNamed(number)
+            | ArrayRefusal::NoMember(number)
+            | ArrayRefusal::Log(LogRefusal::WrongList(number) | LogRefusal::DoesNotFit(number)) => {
+                Some(Detail::Number(*number))
+            }
+            ArrayRefusal::NoRecord
+            | ArrayRefusal::LogSpent
+            | ArrayRefusal::Log(LogRefusal::Off | LogRefusal::NoRecord | LogRefusal::Spent) => None,
         }
     }
 }

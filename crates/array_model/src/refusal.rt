@@ -1,12 +1,13 @@
 // Why the array refuses a call.
 ghost use Rattle.std.specs.Prelude.{◌≡◌};
+ghost use Rattle.array_model.specs.Refusals.{log_side};
 ghost use Rattle.array_model.specs.declared.refusal.ArrayRefusal.TheVariants.{Members as FromMembers, Log as FromLog, Limits as FromLimits, NoSlot as FromSlot};
 
 use crate::state::State;
 use block_address::Address;
 use cache::caches::NoFreeSlot;
 use geometry::shape::OutOfLimits;
-use intent_log::refusal::LogRefusal;
+use intent_log::refusal::{Layer, LogRefusal};
 use member_store::refusal::Refusal;
 
 /// The part of a box that refused.
@@ -54,7 +55,6 @@ pub enum ArrayRefusal {
 /// What a refusal tells besides its number and its layer.
 #[derive(Clone, Copy, PartialEq, Eq, Debug)]
 pub enum Detail {
-    Nothing,
     /// Where the device call without power was.
     At(Address),
     /// Counts of members and blocks.
@@ -63,6 +63,17 @@ pub enum Detail {
     In(State),
     /// A block, a stripe, a member or a length.
     Number(usize),
+}
+
+impl From<Layer> for BoxLayer {
+    ghost from_gives = { λ layer side. side ≡ log_side layer };
+
+    fn from(layer: Layer) -> BoxLayer {
+        match layer {
+            Layer::LogStore => BoxLayer::LogStore,
+            Layer::Log => BoxLayer::Log,
+        }
+    }
 }
 
 impl From<Refusal> for ArrayRefusal {

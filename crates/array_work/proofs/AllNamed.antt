@@ -9,10 +9,7 @@ use Rattle.array_model.specs.Checks.{all_named}
 
 -- a question that was answered while power is on
 pub told : (l : intent.Meaning) (a b : Bool) → l.on ≡ true → Answers l a (Ok b) → b ≡ a
-told l a b on h = same (h ∙ ap (λ o. cond o (Ok a) (Err Off)) on)
-  where
-    same : ◌≡◌ {A = Result Bool LogRefusal} (Ok b) (Ok a) → b ≡ a
-    same k = cc
+told l a b on h = let k : ◌≡◌ {A = Result Bool LogRefusal} (Ok b) (Ok a) = h ∙ ap (λ o. cond o (Ok a) (Err Off)) on in cc
 
 module _ (s : Meaning) (w : List ℕ) (i : ℕ) (h : i < length w) where
   here : all_named s (drop i w) ≡ (named s (get_or w i 0) && all_named s (drop (i + 1) w))

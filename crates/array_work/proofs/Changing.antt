@@ -37,22 +37,16 @@ module _ (c : Contents) (m : members.Meaning) (l : intent.Meaning) (m' : members
   abbrev Changing : Bool → Bool → List Action → ℕ → Result Destage ArrayRefusal → Meaning → Type 0
   Changing named spent acts p r t = options.MatchOption (Refusal? named spent) (Performs acts (Changed p) Ready (exchanged c) before r t) (λ e. Declines e before r t)
 
-  never : {A : Type 0} (p : ℕ) (e : ArrayRefusal) → ◌≡◌ {A = Result ℕ ArrayRefusal} (Ok p) (Err e) → A
-  never p e h = let z : ◌≡◌ {A = ℕ} 0 1 = cc in absurd (omega arith)
-
-  same_refusal : (d e : ArrayRefusal) → ◌≡◌ {A = Result ℕ ArrayRefusal} (Err d) (Err e) → d ≡ e
-  same_refusal d e h = cc
-
   accepted : (named spent : Bool) (acts : List Action) (p q : ℕ) → Named named spent acts p (Ok q) → Changing named spent acts p (Ok (Changed q)) (array Ready (exchanged c) m' l')
   accepted true spent acts p q d = (ap Changed d.0, d.1, refl)
   accepted false false acts p q d = (ap Changed d.0, d.1, refl)
-  accepted false true acts p q d = never q LogSpent d.0
+  accepted false true acts p q d = absurd (cc (d.0))
 
   refused : (named spent : Bool) (acts : List Action) (p : ℕ) (e : ArrayRefusal) → Named named spent acts p (Err e) → Changing named spent acts p (Err e) (array (state_told Ready e) c m' l')
   refused true spent acts p e d = (d, ap (λ x. array x c m' l') (fell Ready acts m l e m' l' d))
   refused false false acts p e d = (d, ap (λ x. array x c m' l') (fell Ready acts m l e m' l' d))
   refused false true acts p e d =
-      let k : e ≡ LogSpent = same_refusal e LogSpent d.0 in
+      let k : e ≡ LogSpent = cc (d.0) in
       (ap Err k, ap (λ x. array x c m' l') (ap (state_told Ready) k) ∙ ap (λ x. array Ready c x l') d.1 ∙ ap (λ x. array Ready c m x) d.2)
 
   pub changes : (w : List ℕ) (q : ℕ) → 0 < length w → Names w before (Ok q) m' l' → ChangesCaches w before (Ok (Changed q)) (array Ready (exchanged c) m' l')

@@ -1,5 +1,5 @@
 -- Destages one after the other, and the barrier after them. Assumes nothing.
-use Rattle.std.proofs.Common.{◌≡◌, ℕ, ◌+◌, true, List, [], ◌∷◌, Some, None, Ok, Err, Option, refl, ap, ◌∙◌, subst, inl, arith}
+use Rattle.std.proofs.Common.{◌≡◌, ℕ, ◌+◌, true, List, [], ◌∷◌, Some, None, Ok, Err, Option, refl, ap, ◌∙◌, subst, inl}
 use Rattle.std.specs.Option as options
 use Rattle.member_store.specs.Meaning as members
 use Rattle.member_store.specs.Calls.{Bars}
@@ -47,14 +47,8 @@ module _ (g : Geometry) (s t : Meaning) (a : Destage) where
 
 -- an idle destage changes nothing
 module _ (g : Geometry) (s t : Meaning) where
-  not_changed : (p : ℕ) → Idle ≡ Changed p → ⊥
-  not_changed p h = let z : ◌≡◌ {A = ℕ} 0 1 = cc in omega arith
-
-  not_moved : (k : ℕ) → Idle ≡ Moved k → ⊥
-  not_moved k h = let z : ◌≡◌ {A = ℕ} 0 1 = cc in omega arith
-
   checked_idle : (acts : List Action) (p : ℕ) (o : Option ArrayRefusal) → options.MatchOption o (Performs acts (Changed p) Ready (exchanged s.caches) s (Ok Idle) t) (λ e. Declines e s (Ok Idle) t) → t ≡ s
-  checked_idle acts p None d = absurd (not_changed p d.0)
+  checked_idle acts p None d = cc (d.0)
   checked_idle acts p (Some e) d = d.1
 
   listed_idle : (w : List ℕ) → ChangesCaches w s (Ok Idle) t → t ≡ s
@@ -63,7 +57,7 @@ module _ (g : Geometry) (s t : Meaning) where
 
   found_idle : (o : Option ℕ) → options.MatchOption o ((w : List ℕ) × Listed g.members g.blocks s.caches.buffering w × ChangesCaches w s (Ok Idle) t) (λ k. MovesStripe g k s (Ok Idle) t) → t ≡ s
   found_idle None d = listed_idle d.0 d.2
-  found_idle (Some k) d = absurd (not_moved k d.0)
+  found_idle (Some k) d = cc (d.0)
 
   pub idle_same : DestagesReady g s (Ok Idle) t → t ≡ s
   idle_same d = found_idle d.0 d.2

@@ -58,7 +58,7 @@ module _ (m n : ℕ) where
 
   in_array : (b : Bool) (k s : ℕ) → Placed b k ≡ Some s → b ≡ true
   in_array true k s h = refl
-  in_array false k s h = let z : ◌≡◌ {A = ℕ} 0 1 = cc in absurd (omega arith)
+  in_array false k s h = cc
 
   below : (f : Blocks) (s : ℕ) (h : HasStripe m n f s) → h.0 < all_blocks
   below f s h = ltb-true h.0 all_blocks (in_array (ltb h.0 all_blocks) h.0 s h.2)

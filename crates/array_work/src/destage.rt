@@ -21,15 +21,16 @@ use crate::refusal::device_refusal;
 use array_model::answer::Destage;
 use array_model::refusal::ArrayRefusal;
 use cache::caches::Caches;
-use cache::slot::BLOCK_BYTES;
 use geometry::array_geometry::Geometry;
 use geometry::layout::Layout;
-use geometry::shape::{MOST_MEMBERS, Shape};
+use geometry::shape::Shape;
 use intent_log::IntentLog;
 use member_store::MemberStore;
-use stripe_work::data::cached_blocks;
 use stripe_work::destage::destage_stripe;
 use stripe_work::refusal::StripeRefusal;
+
+// Kept: store, log and caches are lent one by one; a struct of three loans would be built of the array's fields at each
+// call and taken apart again.
 
 // Writes a stripe's blocks in the destaging cache to the members, then its parity.
 fn write_stripe<S: MemberStore, L: Layout>(
@@ -40,10 +41,7 @@ fn write_stripe<S: MemberStore, L: Layout>(
 ) -> Result<(), StripeRefusal>
     ensures { Destages L.Layout.arrangement (members_of geometry.now.shape) (blocks_of geometry.now.shape) stripe (by_position (members_of geometry.now.shape) (blocks_of geometry.now.shape) (contents caches.now).destaging stripe) (S.MemberStore.meaning store.old) result (S.MemberStore.meaning store.new) }
 {
-    let mut held = [false; MOST_MEMBERS];
-    let mut rows = [[0u8; BLOCK_BYTES]; MOST_MEMBERS];
-    caches.destaging_blocks(geometry.shape, stripe, &mut held, &mut rows);
-    let cached = cached_blocks(&held, &rows);
+    let cached = caches.destaging_blocks(geometry.shape, stripe);
     destage_stripe(store, geometry, stripe, &cached)
 }
 
@@ -58,13 +56,9 @@ fn move_stripe<S: MemberStore, L: Layout>(
     ensures caches { MatchResult result (λ _. contents caches.new ≡ stripe_freed (members_of geometry.now.shape) (blocks_of geometry.now.shape) stripe (contents caches.old)) (λ _. contents caches.new ≡ contents caches.old) }
     ensures does { (l : LogMeaning) → Works (devices (destage_calls (stripe_at L.Layout.arrangement (members_of geometry.now.shape) stripe) (by_position (members_of geometry.now.shape) (blocks_of geometry.now.shape) (contents caches.old).destaging stripe) (S.MemberStore.meaning store.old)) ∷ []) (Moved stripe) (S.MemberStore.meaning store.old) l result (S.MemberStore.meaning store.new) l }
 {
-    match write_stripe(store, geometry, caches, stripe) {
-        Ok(()) => {
-            caches.free_stripe(geometry.shape, stripe);
-            Ok(Destage::Moved(stripe))
-        }
-        Err(e) => Err(device_refusal(e)),
-    }
+    write_stripe(store, geometry, caches, stripe).map_err(device_refusal)?;
+    caches.free_stripe(geometry.shape, stripe);
+    Ok(Destage::Moved(stripe))
 }
 
 // Names the stripes of the buffering cache, if it has any, and lets the caches change places.
@@ -80,16 +74,12 @@ fn change_caches<S: MemberStore, G: IntentLog>(
 {
     let list = caches.buffering_stripes(shape);
     let stripes = list.as_slice();
-    if stripes.len() == 0 {
+    if stripes.is_empty() {
         return Ok(Destage::Idle);
     }
-    match name_stripes(store, log, stripes) {
-        Ok(puts) => {
-            caches.change_places();
-            Ok(Destage::Changed(puts))
-        }
-        Err(e) => Err(e),
-    }
+    let puts = name_stripes(store, log, stripes)?;
+    caches.change_places();
+    Ok(Destage::Changed(puts))
 }
 
 /// One destage: moves the lowest stripe of the destaging cache. Where that cache is empty, names the stripes of the

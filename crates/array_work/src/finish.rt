@@ -14,11 +14,7 @@ pub fn finish_work<S: MemberStore, G: IntentLog>(
     ensures sound { G.IntentLog.sound log.old → G.IntentLog.sound log.new }
     ensures does { G.IntentLog.sound log.old → Works finish_actions tt (S.MemberStore.meaning store.old) (G.IntentLog.meaning log.old) result (S.MemberStore.meaning store.new) (G.IntentLog.meaning log.new) }
 {
-    if let Err(e) = store.barrier() {
-        return Err(ArrayRefusal::Members(e));
-    }
-    if let Err(e) = log.clear() {
-        return Err(ArrayRefusal::Log(e));
-    }
+    store.barrier()?;
+    log.clear()?;
     Ok(())
 }

@@ -27,16 +27,12 @@ fn empty_caches<S: MemberStore, G: IntentLog, L: Layout>(
     ensures sound { G.IntentLog.sound log.old → G.IntentLog.sound log.new }
     ensures does { G.IntentLog.sound log.old → (G.IntentLog.meaning log.old).on ≡ true → Empties (sized L.Layout.arrangement geometry.now.shape) (array_of Ready (contents caches.old) (S.MemberStore.meaning store.old) (G.IntentLog.meaning log.old)) result (array_of (state_after Ready result) (contents caches.new) (S.MemberStore.meaning store.new) (G.IntentLog.meaning log.new)) }
 {
-    let mut stripes = 0;
-    let mut puts = 0;
-    'turn: loop {
-        match destage_once(store, log, geometry, caches) {
-            Ok(done) => match done {
-                Destage::Moved(_) => stripes += 1,
-                Destage::Changed(count) => puts += count,
-                Destage::Idle => return Ok(FlushCounts { stripes, puts }),
-            },
-            Err(e) => return Err(e),
+    let mut counts = FlushCounts::default();
+    loop {
+        match destage_once(store, log, geometry, caches)? {
+            Destage::Moved(_) => counts.stripes += 1,
+            Destage::Changed(puts) => counts.puts += puts,
+            Destage::Idle => return Ok(counts),
         }
     }
 }
@@ -51,12 +47,7 @@ pub fn flush_all<S: MemberStore, G: IntentLog, L: Layout>(
     ensures sound { G.IntentLog.sound log.old → G.IntentLog.sound log.new }
     ensures does { G.IntentLog.sound log.old → (G.IntentLog.meaning log.old).on ≡ true → FlushesReady (sized L.Layout.arrangement geometry.now.shape) (array_of Ready (contents caches.old) (S.MemberStore.meaning store.old) (G.IntentLog.meaning log.old)) result (array_of (state_after Ready result) (contents caches.new) (S.MemberStore.meaning store.new) (G.IntentLog.meaning log.new)) }
 {
-    let counts = match empty_caches(store, log, geometry, caches) {
-        Ok(counts) => counts,
-        Err(refusal) => return Err(refusal),
-    };
-    if let Err(e) = store.barrier() {
-        return Err(ArrayRefusal::Members(e));
-    }
+    let counts = empty_caches(store, log, geometry, caches)?;
+    store.barrier()?;
     Ok(counts)
 }

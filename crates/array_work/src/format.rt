@@ -18,11 +18,9 @@ use member_store::{BLOCK_BYTES, MemberStore};
 fn zero_member<S: MemberStore>(store: &mut S, member: usize, blocks: usize) -> Result<(), Refusal>
     ensures { Performs (for_each (λ b. store_call member b zeros ∷ []) blocks) (S.MemberStore.meaning store.old) result (S.MemberStore.meaning store.new) }
 {
-    let zero = [0u8; BLOCK_BYTES];
+    let zero = [0; BLOCK_BYTES];
     for block in 0..blocks {
-        if let Err(e) = store.store(Address { member, block }, &zero) {
-            return Err(e);
-        }
+        store.store(Address { member, block }, &zero)?;
     }
     Ok(())
 }
@@ -33,9 +31,7 @@ fn zero_members<S: MemberStore>(store: &mut S, shape: Shape) -> Result<(), Refus
 {
     let blocks = shape.blocks();
     for member in 0..shape.members().get() {
-        if let Err(e) = zero_member(store, member, blocks) {
-            return Err(e);
-        }
+        zero_member(store, member, blocks)?;
     }
     Ok(())
 }
@@ -49,17 +45,9 @@ pub fn format_work<S: MemberStore, G: IntentLog>(
     ensures sound { G.IntentLog.sound log.old → G.IntentLog.sound log.new }
     ensures does { (arrange : Arrange) → G.IntentLog.sound log.old → Works (format_actions (sized arrange shape)) tt (S.MemberStore.meaning store.old) (G.IntentLog.meaning log.old) result (S.MemberStore.meaning store.new) (G.IntentLog.meaning log.new) }
 {
-    if let Err(refusal) = log.blank() {
-        return Err(ArrayRefusal::Log(refusal));
-    }
-    if let Err(e) = zero_members(store, shape) {
-        return Err(ArrayRefusal::Members(e));
-    }
-    if let Err(e) = store.barrier() {
-        return Err(ArrayRefusal::Members(e));
-    }
-    if let Err(e) = log.clear() {
-        return Err(ArrayRefusal::Log(e));
-    }
+    log.blank()?;
+    zero_members(store, shape)?;
+    store.barrier()?;
+    log.clear()?;
     Ok(())
 }

@@ -19,13 +19,8 @@ fn names_all<G: IntentLog>(log: &G, list: &[u32]) -> Result<bool, LogRefusal>
     ensures { (q : State) (c : Contents) (m : StoreMeaning) → G.IntentLog.sound log.now → (G.IntentLog.meaning log.now).on ≡ true → result ≡ OkOf (all_named (array_of q c m (G.IntentLog.meaning log.now)) list.now) }
 {
     for stripe in list {
-        match log.is_named(*stripe) {
-            Ok(named) => {
-                if !named {
-                    return Ok(false);
-                }
-            }
-            Err(e) => return Err(e),
+        if !log.is_named(*stripe)? {
+            return Ok(false);
         }
     }
     Ok(true)
@@ -40,12 +35,8 @@ fn bar_and_freshen<S: MemberStore, G: IntentLog>(
     ensures sound { G.IntentLog.sound log.old → G.IntentLog.sound log.new }
     ensures does { G.IntentLog.sound log.old → Works (devices (barrier_call ∷ []) ∷ fresh_action list.now ∷ []) tt (S.MemberStore.meaning store.old) (G.IntentLog.meaning log.old) result (S.MemberStore.meaning store.new) (G.IntentLog.meaning log.new) }
 {
-    if let Err(e) = store.barrier() {
-        return Err(ArrayRefusal::Members(e));
-    }
-    if let Err(e) = log.fresh(list) {
-        return Err(ArrayRefusal::Log(e));
-    }
+    store.barrier()?;
+    log.fresh(list)?;
     Ok(())
 }
 
@@ -58,17 +49,10 @@ fn put_list<S: MemberStore, G: IntentLog>(
     ensures sound { G.IntentLog.sound log.old → G.IntentLog.sound log.new }
     ensures does { G.IntentLog.sound log.old → (G.IntentLog.meaning log.old).on ≡ true → Works (if (G.IntentLog.meaning log.old).fits list.now then mark_action list.now ∷ [] else devices (barrier_call ∷ []) ∷ fresh_action list.now ∷ []) tt (S.MemberStore.meaning store.old) (G.IntentLog.meaning log.old) result (S.MemberStore.meaning store.new) (G.IntentLog.meaning log.new) }
 {
-    match log.fits(list) {
-        Ok(fits) => {
-            if !fits {
-                return bar_and_freshen(store, log, list);
-            }
-        }
-        Err(e) => return Err(ArrayRefusal::Log(e)),
+    if !log.fits(list)? {
+        return bar_and_freshen(store, log, list);
     }
-    if let Err(e) = log.mark(list) {
-        return Err(ArrayRefusal::Log(e));
-    }
+    log.mark(list)?;
     Ok(())
 }
 
@@ -83,24 +67,12 @@ pub fn name_stripes<S: MemberStore, G: IntentLog>(
     ensures few { IfOk result (λ p. p ≤ 1) }
     ensures does { (q : State) (c : Contents) → G.IntentLog.sound log.old → (G.IntentLog.meaning log.old).on ≡ true → Names list.now (array_of q c (S.MemberStore.meaning store.old) (G.IntentLog.meaning log.old)) result (S.MemberStore.meaning store.new) (G.IntentLog.meaning log.new) }
 {
-    match names_all(log, list) {
-        Ok(named) => {
-            if named {
-                return Ok(0);
-            }
-        }
-        Err(e) => return Err(ArrayRefusal::Log(e)),
+    if names_all(log, list)? {
+        return Ok(0);
     }
-    match log.spent() {
-        Ok(spent) => {
-            if spent {
-                return Err(ArrayRefusal::LogSpent);
-            }
-        }
-        Err(e) => return Err(ArrayRefusal::Log(e)),
+    if log.spent()? {
+        return Err(ArrayRefusal::LogSpent);
     }
-    match put_list(store, log, list) {
-        Ok(()) => Ok(1),
-        Err(e) => Err(e),
-    }
+    put_list(store, log, list)?;
+    Ok(1)
 }

@@ -18,8 +18,6 @@ pub fn power_on_work<S: MemberStore, G: IntentLog>(
     ensures own { S.MemberStore.powering store.old store.new × MatchResult result (λ _. G.IntentLog.powering log.old (Ok tt) log.new) (λ e. (d : Cause) × (e ≡ FromLog d) × G.IntentLog.powering log.old (Err d) log.new) }
 {
     store.power_on();
-    match log.power_on() {
-        Ok(()) => Ok(()),
-        Err(e) => Err(ArrayRefusal::Log(e)),
-    }
+    log.power_on()?;
+    Ok(())
 }

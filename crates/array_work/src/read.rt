@@ -14,20 +14,24 @@ ghost use Rattle.array_work.specs.Outcomes.{sized, Fetched, state_after};
 
 use crate::refusal::device_refusal;
 use array_model::refusal::ArrayRefusal;
+use block_address::Address;
 use cache::caches::Caches;
 use geometry::array_geometry::Geometry;
 use geometry::layout::Layout;
-use block_address::Address;
 use geometry::shape::Shape;
 use member_store::{BLOCK_BYTES, MemberStore};
 use stripe_work::reconstruct::reconstruct_block;
 
-// Where a block of the array lies.
-fn block_address<L: Layout>(geometry: &Geometry<L>, block: usize) -> Address
+// Kept: the bound of a block's number and the length of a buffer stand in four contracts; the array's checks show both just
+// before, and types for them would be made there only to be taken apart here.
+
+/// Where a block of the array lies.
+pub fn address_of_block<L: Layout>(geometry: &Geometry<L>, block: usize) -> Address
     requires { block < data_blocks (members_of geometry.now.shape) (blocks_of geometry.now.shape) }
     ensures member { result.member ≡ holder (sized L.Layout.arrangement geometry.now.shape) block }
     ensures block { result.block ≡ (stripe_of (sized L.Layout.arrangement geometry.now.shape) (home (sized L.Layout.arrangement geometry.now.shape) block)).block }
     ensures there { address_check (members_of geometry.now.shape) (blocks_of geometry.now.shape) result ≡ NoneOf }
+    ensures small { result.block < 16777216 }
 {
     geometry.data_address(block).unwrap()
 }
@@ -42,11 +46,9 @@ fn read_held<S: MemberStore, L: Layout>(
     requires { (block < data_blocks (members_of geometry.now.shape) (blocks_of geometry.now.shape)) × (length into.old ≡ 512) }
     ensures { Fetched (read_calls (sized L.Layout.arrangement geometry.now.shape) block) (held (sized L.Layout.arrangement geometry.now.shape) (S.MemberStore.meaning store.old) block) into.old into.new (S.MemberStore.meaning store.old) result (S.MemberStore.meaning store.new) }
 {
-    let at = block_address(geometry, block);
-    match store.read(at, into) {
-        Ok(()) => Ok(()),
-        Err(e) => Err(ArrayRefusal::Members(e)),
-    }
+    let at = address_of_block(geometry, block);
+    store.read(at, into)?;
+    Ok(())
 }
 
 /// Reads a block: from the caches, the newest first, else from the member that has it. A refusal leaves the buffer as it was.
@@ -77,14 +79,10 @@ fn read_missing<S: MemberStore, L: Layout>(
     requires { (address_check (members_of geometry.now.shape) (blocks_of geometry.now.shape) at ≡ NoneOf) × (length into.old ≡ 512) }
     ensures { Fetched (other_reads (members_of geometry.now.shape) at.block at.member) (reconstructed (members_of geometry.now.shape) at.block at.member (S.MemberStore.meaning store.old)) into.old into.new (S.MemberStore.meaning store.old) result (S.MemberStore.meaning store.new) }
 {
-    let mut bytes = [0u8; BLOCK_BYTES];
-    match reconstruct_block(store, geometry, at, &mut bytes) {
-        Ok(()) => {
-            into.copy_from_slice(&bytes);
-            Ok(())
-        }
-        Err(e) => Err(device_refusal(e)),
-    }
+    let mut bytes = [0; BLOCK_BYTES];
+    reconstruct_block(store, geometry, at, &mut bytes).map_err(device_refusal)?;
+    into.copy_from_slice(&bytes);
+    Ok(())
 }
 
 /// Reads a block without touching the absent member: a block that it has is worked out of the others. A refusal leaves
@@ -99,7 +97,7 @@ pub fn read_without<S: MemberStore, L: Layout>(
     requires { (block < data_blocks (members_of geometry.now.shape) (blocks_of geometry.now.shape)) × (length into.old ≡ 512) }
     ensures { (q : State) (c : Contents) (l : LogMeaning) → ReadsWithout (sized L.Layout.arrangement geometry.now.shape) absent block into.old into.new (array_of q c (S.MemberStore.meaning store.old) l) result (array_of (state_after q result) c (S.MemberStore.meaning store.new) l) }
 {
-    let at = block_address(geometry, block);
+    let at = address_of_block(geometry, block);
     if at.member == absent {
         return read_missing(store, geometry, at, into);
     }

@@ -9,10 +9,8 @@ pub(super) fn device_refusal(refusal: StripeRefusal) -> ArrayRefusal
     requires { IsDevice refusal }
     ensures { Tells refusal result }
 {
-    match refusal {
-        StripeRefusal::Device(e) => ArrayRefusal::Members(e),
-        StripeRefusal::NoStripe(_) => unreachable(),
-        StripeRefusal::NoMember(_) => unreachable(),
-        StripeRefusal::NoBlock(_) => unreachable(),
-    }
+    let StripeRefusal::Device(e) = refusal else {
+        unreachable()
+    };
+    e.into()
 }

@@ -18,17 +18,6 @@ use intent_log::refusal::LogRefusal;
 use member_store::MemberStore;
 use stripe_work::resync::resync_stripe;
 
-// Where the search begins: past the array's stripes there is nothing to find, however high the number.
-fn search_start(shape: Shape, from: usize) -> u32
-    ensures low { from < stripe_count (blocks_of shape) → result ≡ from }
-    ensures high { stripe_count (blocks_of shape) ≤ from → result ≡ stripe_count (blocks_of shape) }
-{
-    if from < shape.stripes() {
-        return from as u32;
-    }
-    shape.stripes() as u32
-}
-
 /// The next stripe of the array at or above a number that the log names, where there is one.
 pub fn next_due<G: IntentLog>(
     log: &G,
@@ -38,18 +27,14 @@ pub fn next_due<G: IntentLog>(
     ensures below { Below (blocks_of shape) result }
     ensures finds { G.IntentLog.sound log.now → FindsDue (blocks_of shape) (G.IntentLog.meaning log.now) from result }
 {
-    match log.next_named(search_start(shape, from)) {
-        Ok(found) => match found {
-            Some(stripe) => {
-                if (stripe as usize) < shape.stripes() {
-                    return Ok(Some(stripe as usize));
-                }
-                Ok(None)
-            }
-            None => Ok(None),
-        },
-        Err(e) => Err(e),
-    }
+    let stripes = shape.stripes();
+    // Past the array's stripes there is nothing to find, however high the number.
+    let found = log.next_named(from.min(stripes) as u32)?;
+    Ok(
+        found
+            .map(|stripe| stripe as usize)
+            .filter(|stripe| *stripe < stripes),
+    )
 }
 
 /// Takes one stripe of the array: reads it, and stores its parity where that was wrong. Answers whether it did.
@@ -61,8 +46,5 @@ pub fn take_stripe<S: MemberStore, L: Layout>(
     requires { stripe < stripe_count (blocks_of geometry.now.shape) }
     ensures { (l : LogMeaning) → Works (devices (resync_calls (stripe_at L.Layout.arrangement (members_of geometry.now.shape) stripe) (S.MemberStore.meaning store.old)) ∷ []) (not (parity_right (stripe_at L.Layout.arrangement (members_of geometry.now.shape) stripe) (S.MemberStore.meaning store.old))) (S.MemberStore.meaning store.old) l result (S.MemberStore.meaning store.new) l }
 {
-    match resync_stripe(store, geometry, stripe) {
-        Ok(mended) => Ok(mended),
-        Err(e) => Err(device_refusal(e)),
-    }
+    resync_stripe(store, geometry, stripe).map_err(device_refusal)
 }

@@ -1,4 +1,6 @@
-use Rattle.std.proofs.Common.{◌<◌, length, Ok, sym, refl, subst, arith}
+use Rattle.std.proofs.Common.{◌<◌, length, Ok, sym, subst, arith}
+use Rattle.std.proofs.lemmas.Bool.Decides.{nat_tests}
+use Rattle.std.proofs.lemmas.Result.{err_from_is_err_and}
 use Rattle.geometry.specs.Counts.{members_of, blocks_of}
 use Rattle.cache.specs.Meaning.{contents}
 use Rattle.cache.specs.Stripes.{Listed}
@@ -9,34 +11,31 @@ use Rattle.array_model.specs.declared.state.State.TheVariants.{Ready}
 use Rattle.array_work.proofs.Changing.{changes, declines, some_stripe}
 use Rattle.array_work.proofs.destage.change_caches.Goals as goal
 
-pub returns-in-Ok : goal.returns-in-Ok
-returns-in-Ok g c =
+pub returns : goal.returns
+returns g c =
     let b = contents c.args.caches.now in
     let m = g.S.MemberStore.meaning c.args.store.now in
     let l = g.G.IntentLog.meaning c.args.log.now in
     let n = g.S.MemberStore.meaning c.name_stripes.new.store in
     let k = g.G.IntentLog.meaning c.name_stripes.new.log in
     let w = c.as_slice-stripes.result.now in
-    let lt : 0 < length w = omega arith in
+    let lt : 0 < length w = grind (arith, nat_tests) in
     let list : Listed (members_of c.args.shape) (blocks_of c.args.shape) b.buffering w = subst (λ ys. Listed (members_of c.args.shape) (blocks_of c.args.shape) b.buffering ys) (sym c.as_slice-stripes.ensures) c.buffering_stripes-list.ensures in
     record {
       sound = λ h. c.name_stripes.ensures.sound h;
-      caches = (c.in-Ok.ensures.few, some_stripe (members_of c.args.shape) (blocks_of c.args.shape) b.buffering w list lt, c.change_places.ensures);
-      does = λ h on. (w, list, subst (λ x. ChangesCaches w (array Ready b m l) (Ok (Changed c.in-Ok.puts)) (array Ready x n k)) (sym c.change_places.ensures) (changes b m l n k w c.in-Ok.puts lt (c.in-Ok.ensures.does Ready b h on)));
+      caches = (c.in_ok-puts.ensures.few, some_stripe (members_of c.args.shape) (blocks_of c.args.shape) b.buffering w list lt, c.change_places.ensures);
+      does = λ h on. (w, list, subst (λ x. ChangesCaches w (array Ready b m l) (Ok (Changed c.in_ok-puts.puts)) (array Ready x n k)) (sym c.change_places.ensures) (changes b m l n k w c.in_ok-puts.puts lt (c.in_ok-puts.ensures.does Ready b h on)));
     }
 
-pub returns-in-Err : goal.returns-in-Err
-returns-in-Err g c =
+pub returns-in_err-puts-clause-does : goal.returns-in_err-puts-clause-does
+returns-in_err-puts-clause-does g c h on =
     let b = contents c.args.caches.now in
     let m = g.S.MemberStore.meaning c.args.store.now in
     let l = g.G.IntentLog.meaning c.args.log.now in
     let n = g.S.MemberStore.meaning c.name_stripes.new.store in
     let k = g.G.IntentLog.meaning c.name_stripes.new.log in
     let w = c.as_slice-stripes.result.now in
-    let lt : 0 < length w = omega arith in
+    let lt : 0 < length w = grind (arith, nat_tests) in
     let list : Listed (members_of c.args.shape) (blocks_of c.args.shape) b.buffering w = subst (λ ys. Listed (members_of c.args.shape) (blocks_of c.args.shape) b.buffering ys) (sym c.as_slice-stripes.ensures) c.buffering_stripes-list.ensures in
-    record {
-      sound = λ h. c.name_stripes.ensures.sound h;
-      caches = refl;
-      does = λ h on. (w, list, declines b m l n k w c.in-Err.e lt (c.in-Err.ensures.does Ready b h on));
-    }
+    let p = err_from_is_err_and c.from_residual.result c.from_residual.ensures.1 in
+    rw (p.1, p.2) (w, list, declines b m l n k w _ lt (c.in_err-puts.ensures.does Ready b h on))

@@ -8,11 +8,11 @@ use Rattle.array_work.proofs.destage.destage_once.Goals as goal
 
 pub move_stripe-requires : goal.move_stripe-requires
 move_stripe-requires g c =
-    stripe_small (members_of c.args.shape) (blocks_of c.args.shape) c.args.shape.members.least (contents c.args.caches.now).destaging c.in-Some.stripe c.in-Some.ensures.0
+    stripe_small (members_of c.args.geometry.now.shape) (blocks_of c.args.geometry.now.shape) c.args.geometry.now.shape.members.least (contents c.args.caches.now).destaging c.in-Some.stripe c.in-Some.ensures.0
 
 pub returns-in-Some : goal.returns-in-Some
 returns-in-Some g c =
-    let a = sized g.L.Layout.arrangement c.args.shape in
+    let a = sized g.L.Layout.arrangement c.args.geometry.now.shape in
     let b = contents c.args.caches.now in
     let d = contents c.move_stripe.new.caches in
     let m = g.S.MemberStore.meaning c.args.store.now in

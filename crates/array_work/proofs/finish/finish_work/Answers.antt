@@ -1,21 +1,17 @@
 use Rattle.std.proofs.Common.{refl, inl, inr}
+use Rattle.std.proofs.lemmas.Result.{err_from_is_err_and}
 use Rattle.array_work.proofs.finish.finish_work.Goals as goal
 
-pub returns-in-Err-clear : goal.returns-in-Err-clear
-returns-in-Err-clear g c =
+pub returns-in_err-clear-clause-does : goal.returns-in_err-clear-clause-does
+returns-in_err-clear-clause-does g c h =
     let u = g.S.MemberStore.meaning c.barrier.new.self in
     let l = g.G.IntentLog.meaning c.args.log.now in
-    record {
-      sound = λ h. c.clear.ensures.sound h;
-      does = λ h. inr (u, l, ((u, c.in_default.ensures.means, refl), refl), inl (c.in-Err-clear.e, refl, refl, c.in-Err-clear.ensures.means h));
-    }
+    let p = err_from_is_err_and c.from_residual-in_err-clear.result c.from_residual-in_err-clear.ensures.1 in
+    rw (p.1, p.2) (inr (u, l, ((u, c.in_ok-barrier.ensures.means, refl), refl), inl (_, refl, refl, c.in_err-clear.ensures.means h)))
 
-pub returns : goal.returns
-returns g c =
+pub returns-clause-does : goal.returns-clause-does
+returns-clause-does g c h =
     let u = g.S.MemberStore.meaning c.barrier.new.self in
     let l = g.G.IntentLog.meaning c.args.log.now in
     let k = g.G.IntentLog.meaning c.clear.new.self in
-    record {
-      sound = λ h. c.clear.ensures.sound h;
-      does = λ h. (refl, (u, l, ((u, c.in_default.ensures.means, refl), refl), (u, k, (refl, c.in_default-clear.ensures.means h), (refl, refl))));
-    }
+    (refl, (u, l, ((u, c.in_ok-barrier.ensures.means, refl), refl), (u, k, (refl, c.in_ok-clear.ensures.means h), (refl, refl))))

@@ -1,21 +1,16 @@
-use Rattle.std.proofs.Common.{◌≡◌, ◌+◌, ◌≤◌, true}
 use Rattle.geometry.specs.Counts.{members_of, blocks_of}
 use Rattle.cache.specs.Meaning.{contents}
 use Rattle.array_model.specs.Meaning.{array}
-use Rattle.array_model.specs.Calls.{Drains}
 use Rattle.array_model.specs.declared.state.State.TheVariants.{Ready}
 use Rattle.array_work.specs.Outcomes.{sized}
 use Rattle.array_work.proofs.Falling.{left_in}
+use Rattle.array_work.proofs.Turns.{Turn}
 use Rattle.array_work.proofs.flush.empty_caches.Given as goal
 
-abbrev pub invariant-turn : goal.invariant-turn
-invariant-turn g l =
-    (g.G.IntentLog.sound l.initial.log → g.G.IntentLog.sound l.log)
-    × (g.G.IntentLog.sound l.initial.log → (g.G.IntentLog.meaning l.initial.log).on ≡ true
-    → ((g.G.IntentLog.meaning l.log).on ≡ true)
-    × Drains (sized g.L.Layout.arrangement l.shape) (array Ready (contents l.initial.caches) (g.S.MemberStore.meaning l.initial.store) (g.G.IntentLog.meaning l.initial.log))
-    l.stripes l.puts (array Ready (contents l.caches) (g.S.MemberStore.meaning l.store) (g.G.IntentLog.meaning l.log)))
-    × (l.stripes + l.puts + left_in (members_of l.shape) (blocks_of l.shape) (contents l.caches) ≤ 352321536)
+abbrev pub invariant-loop-counts : goal.invariant-loop-counts
+invariant-loop-counts g l =
+    Turn (sized g.L.Layout.arrangement l.geometry.shape) (array Ready (contents l.initial.caches) (g.S.MemberStore.meaning l.initial.store) (g.G.IntentLog.meaning l.initial.log))
+    (g.G.IntentLog.sound l.initial.log) (g.G.IntentLog.sound l.log) l.counts.stripes l.counts.puts (contents l.caches) (g.S.MemberStore.meaning l.store) (g.G.IntentLog.meaning l.log)
 
-abbrev pub decreases-turn : goal.decreases-turn
-decreases-turn g l = left_in (members_of l.shape) (blocks_of l.shape) (contents l.caches)
+abbrev pub decreases-loop-counts : goal.decreases-loop-counts
+decreases-loop-counts g l = left_in (members_of l.geometry.shape) (blocks_of l.geometry.shape) (contents l.caches)

@@ -1,4 +1,5 @@
 use Rattle.std.proofs.Common.{◌≡◌, ℕ, ◌<◌, [], ◌∷◌, subst, arith}
+use Rattle.std.proofs.lemmas.Result.{err_from_is_err_and}
 use Rattle.parity.specs.Xor.{zeros}
 use Rattle.device_calls.specs.Lists.{store, for_each, Completed}
 use Rattle.device_calls.proofs.Append.{for_each_more, for_each_stopped}
@@ -10,15 +11,17 @@ loop-block-preserved g c =
     let u = g.S.MemberStore.meaning c.loop-block.store in
     let t = g.S.MemberStore.meaning c.store.new.self in
     for_each_more (λ b. store c.args.member b zeros ∷ []) c.loop-block.block (g.S.MemberStore.meaning c.args.store.now) u t c.loop-block.invariant
-    (zeroed c.args.member c.loop-block.block u t c.in_default.ensures.means)
+    (zeroed c.args.member c.loop-block.block u t c.in_ok-store.ensures.means)
 
-pub returns-in-Err : goal.returns-in-Err
-returns-in-Err g c =
+pub returns-in_err-store : goal.returns-in_err-store
+returns-in_err-store g c =
     let u = g.S.MemberStore.meaning c.loop-block.store in
     let t = g.S.MemberStore.meaning c.store.new.self in
     let l : c.loop-block.block < c.args.blocks = omega arith in
-    for_each_stopped (λ b. store c.args.member b zeros ∷ []) c.args.blocks c.loop-block.block (g.S.MemberStore.meaning c.args.store.now) u c.in-Err.e t l c.loop-block.invariant
-    (not_zeroed c.args.member c.loop-block.block u c.in-Err.e t c.in-Err.ensures.means)
+    let p = err_from_is_err_and c.from_residual.result c.from_residual.ensures.1 in
+    rw (p.1, p.2)
+    (for_each_stopped (λ b. store c.args.member b zeros ∷ []) c.args.blocks c.loop-block.block (g.S.MemberStore.meaning c.args.store.now) u _ t l c.loop-block.invariant
+    (not_zeroed c.args.member c.loop-block.block u _ t c.in_err-store.ensures.means))
 
 pub returns : goal.returns
 returns g c =

@@ -1,21 +1,17 @@
 use Rattle.std.proofs.Common.{refl, inl, inr}
+use Rattle.std.proofs.lemmas.Result.{err_from_is_err_and}
 use Rattle.array_work.proofs.naming.bar_and_freshen.Goals as goal
 
-pub returns-in-Err-fresh : goal.returns-in-Err-fresh
-returns-in-Err-fresh g c =
+pub returns-in_err-fresh-clause-does : goal.returns-in_err-fresh-clause-does
+returns-in_err-fresh-clause-does g c h =
     let u = g.S.MemberStore.meaning c.barrier.new.self in
     let l = g.G.IntentLog.meaning c.args.log.now in
-    record {
-      sound = λ h. c.fresh.ensures.sound h;
-      does = λ h. inr (u, l, ((u, c.in_default.ensures.means, refl), refl), inl (c.in-Err-fresh.e, refl, refl, c.in-Err-fresh.ensures.means h));
-    }
+    let p = err_from_is_err_and c.from_residual-in_err-fresh.result c.from_residual-in_err-fresh.ensures.1 in
+    rw (p.1, p.2) (inr (u, l, ((u, c.in_ok-barrier.ensures.means, refl), refl), inl (_, refl, refl, c.in_err-fresh.ensures.means h)))
 
-pub returns : goal.returns
-returns g c =
+pub returns-clause-does : goal.returns-clause-does
+returns-clause-does g c h =
     let u = g.S.MemberStore.meaning c.barrier.new.self in
     let l = g.G.IntentLog.meaning c.args.log.now in
     let k = g.G.IntentLog.meaning c.fresh.new.self in
-    record {
-      sound = λ h. c.fresh.ensures.sound h;
-      does = λ h. (refl, (u, l, ((u, c.in_default.ensures.means, refl), refl), (u, k, (refl, c.in_default-fresh.ensures.means h), (refl, refl))));
-    }
+    (refl, (u, l, ((u, c.in_ok-barrier.ensures.means, refl), refl), (u, k, (refl, c.in_ok-fresh.ensures.means h), (refl, refl))))

@@ -11,17 +11,17 @@ loop-stripe-preserved g c q k m h on =
     let w = c.args.list.now in
     let i = c.loop-stripe.stripe-index in
     let lt : i < length w = omega arith in
-    let b : c.in-Ok.named ≡ true = search rules in
-    passes (array q k m l) w i lt (c.loop-stripe.invariant q k m h on) (sym b ∙ told l (l.standing.names (get_or w i 0)) c.in-Ok.named on (c.in-Ok.ensures h))
+    let b : c.in_ok-is_named.field-0 ≡ true = search rules in
+    passes (array q k m l) w i lt (c.loop-stripe.invariant q k m h on) (sym b ∙ told l (l.standing.names (get_or w i 0)) c.in_ok-is_named.field-0 on (c.in_ok-is_named.ensures h))
 
-pub returns-then-not-named : goal.returns-then-not-named
-returns-then-not-named g c q k m h on =
+pub returns-then-not-branch : goal.returns-then-not-branch
+returns-then-not-branch g c q k m h on =
     let l = g.G.IntentLog.meaning c.args.log.now in
     let w = c.args.list.now in
     let i = c.loop-stripe.stripe-index in
     let lt : i < length w = omega arith in
-    let b : c.in-Ok.named ≡ false = search rules in
-    ap Ok (fails (array q k m l) w i lt (c.loop-stripe.invariant q k m h on) (sym b ∙ told l (l.standing.names (get_or w i 0)) c.in-Ok.named on (c.in-Ok.ensures h)))
+    let b : c.in_ok-is_named.field-0 ≡ false = search rules in
+    ap Ok (fails (array q k m l) w i lt (c.loop-stripe.invariant q k m h on) (sym b ∙ told l (l.standing.names (get_or w i 0)) c.in_ok-is_named.field-0 on (c.in_ok-is_named.ensures h)))
 
 pub returns : goal.returns
 returns g c q k m h on =

@@ -1,19 +1,22 @@
 use Rattle.std.proofs.Common.{refl, inl}
+use Rattle.std.proofs.lemmas.Result.{err_from_is_err_and}
 use Rattle.array_model.specs.Meaning.{stripe, home, holder}
 use Rattle.array_work.specs.Outcomes.{sized}
 use Rattle.array_work.proofs.Fetching.{unread}
 use Rattle.array_work.proofs.read.read_held.Goals as goal
 
-pub returns-in-Err : goal.returns-in-Err
-returns-in-Err g c =
-    let a = sized g.L.Layout.arrangement c.args.shape in
-    let at = c.block_address-at.result in
-    let h = c.in-Err.ensures.means in (
+pub returns-in_err-read : goal.returns-in_err-read
+returns-in_err-read g c =
+    let a = sized g.L.Layout.arrangement c.args.geometry.now.shape in
+    let at = c.address_of_block-at.result in
+    let h = c.in_err-read.ensures.means in
+    let p = err_from_is_err_and c.from_residual.result c.from_residual.ensures.1 in
+    rw (p.1, p.2) (
       λ l. inl (
-        c.in-Err.e,
+        _,
         refl,
-        unread at.member at.block (holder a c.args.block) (stripe a (home a c.args.block)).block c.args.into.now c.read.new.into (g.S.MemberStore.meaning c.args.store.now) c.in-Err.e (g.S.MemberStore.meaning c.read.new.self)
-            c.block_address-at.ensures.member c.block_address-at.ensures.block c.requires.1 h,
+        unread at.member at.block (holder a c.args.block) (stripe a (home a c.args.block)).block c.args.into.now c.read.new.into (g.S.MemberStore.meaning c.args.store.now) _ (g.S.MemberStore.meaning c.read.new.self)
+            c.address_of_block-at.ensures.member c.address_of_block-at.ensures.block c.requires.1 h,
         refl,
       ),
       h.0,
