@@ -13,11 +13,6 @@ use Rattle.array_model.specs.declared.state.State.{State}
 use Rattle.array_model.specs.declared.state.State.TheVariants.{Ready}
 use Rattle.array_model.specs.declared.refusal.ArrayRefusal.{ArrayRefusal}
 use Rattle.array_model.specs.declared.refusal.ArrayRefusal.TheVariants.{NoSlot}
-use Rattle.array.specs.Sound.{LogOn, Sized, SoundIn}
-
--- a sound array that is ready
-pub ready_sound : (q : State) (sound : Type 0) (m : store.Meaning) (l : intent.Meaning) → q ≡ Ready → SoundIn q sound m l → LogOn sound l × Sized m
-ready_sound q sound m l e h = subst (λ x. SoundIn x sound m l) e h
 
 module _ (g : Geometry) (q : State) (c : Contents) (m : store.Meaning) (l : intent.Meaning) (ready : q ≡ Ready) (k : ℕ) where
   abbrev before : Meaning

@@ -11,20 +11,21 @@ use Rattle.array_model.specs.declared.answer.Destage.{Destage}
 use Rattle.array_model.specs.declared.state.State.{State}
 use Rattle.array_model.specs.declared.state.State.TheVariants.{Ready}
 use Rattle.array_model.specs.declared.refusal.ArrayRefusal.{ArrayRefusal}
-use Rattle.array_work.specs.Outcomes.{sized}
+use Rattle.array_work.specs.Outcomes.{sized, state_after}
 use Rattle.array.specs.Sound.{LogOn, Sized, SoundIn}
 use Rattle.array.proofs.Kept.{shape_geometry}
 use Rattle.array.proofs.Safety.{destage_safe}
 
 module _ (arrange : Arrange) (a : Shape) (q : State) (c : Contents) (m : store.Meaning) (l : intent.Meaning) (ready : q ≡ Ready) (p : members_of a ≡ m.members) (n : blocks_of a ≡ m.blocks) (c' : Contents) (m' : store.Meaning) (l' : intent.Meaning) (r : Result Destage ArrayRefusal) where
-  -- in the state x that it leads to
-  pub destages : (x y : State) → x ≡ y → DestagesReady (sized arrange a) (array Ready c m l) r (array y c' m' l') → Destages (geometry_on arrange m) (array q c m l) r (array x c' m' l')
-  destages x y e d =
-      subst (λ g. Destages g (array q c m l) r (array x c' m' l')) (shape_geometry arrange a m p n)
-      (subst (λ z. Destages (sized arrange a) (array z c m l) r (array x c' m' l')) (sym ready)
-      (subst (λ z. DestagesReady (sized arrange a) (array Ready c m l) r (array z c' m' l')) (sym e) d))
+  abbrev Ended : Type 0
+  Ended = DestagesReady (sized arrange a) (array Ready c m l) r (array (state_after Ready r) c' m' l')
 
-  pub destaged_sound : (S S' : Type 0) → S' → (x y : State) → x ≡ y → LogOn S l × Sized m → DestagesReady (sized arrange a) (array Ready c m l) r (array y c' m' l') → SoundIn x S' m' l'
-  destaged_sound S S' s x y e h d =
-      subst (λ z. SoundIn z S' m' l') (sym e)
-      (destage_safe S' s (sized arrange a) (array Ready c m l) (array y c' m' l') r h.0.1 h.1 ((s, h.0.1), h.1) d)
+  pub destages : Ended → Destages (geometry_on arrange m) (array q c m l) r (array (state_after q r) c' m' l')
+  destages d =
+      subst (λ g. Destages g (array q c m l) r (array (state_after q r) c' m' l')) (shape_geometry arrange a m p n)
+      (subst (λ z. Destages (sized arrange a) (array z c m l) r (array (state_after z r) c' m' l')) (sym ready) d)
+
+  pub destaged_sound : (S S' : Type 0) → S' → LogOn S l × Sized m → Ended → SoundIn (state_after q r) S' m' l'
+  destaged_sound S S' s h d =
+      subst (λ z. SoundIn (state_after z r) S' m' l') (sym ready)
+      (destage_safe S' s (sized arrange a) (array Ready c m l) (array (state_after Ready r) c' m' l') r h.0.1 h.1 ((s, h.0.1), h.1) d)

@@ -1,5 +1,5 @@
 -- Formatting. Assumes nothing.
-use Rattle.std.proofs.Common.{◌≡◌, ℕ, true, cond, Some, None, Ok, Err, sym, refl, ap, ◌∙◌, subst}
+use Rattle.std.proofs.Common.{◌≡◌, true, cond, Some, None, Ok, Err, sym, refl, ap, ◌∙◌, subst}
 use Rattle.std.specs.Option as options
 use Rattle.geometry.specs.Counts.{members_of, blocks_of}
 use Rattle.geometry.specs.declared.shape.Shape.{Shape}
@@ -14,13 +14,10 @@ use Rattle.array_model.specs.declared.state.State.{State}
 use Rattle.array_model.specs.declared.state.State.TheVariants.{Fallen, Down}
 use Rattle.array_model.specs.declared.refusal.ArrayRefusal.{ArrayRefusal}
 use Rattle.array_model.specs.declared.refusal.ArrayRefusal.TheVariants.{Limits}
-use Rattle.array_work.specs.Outcomes.{sized}
+use Rattle.array_work.specs.Outcomes.{sized, Works, state_told, state_after}
+use Rattle.array_work.proofs.Fetching.{fell}
 use Rattle.array.specs.Sound.{Sized, SoundIn}
-
--- a shape with the counts of the members
-pub same_geometry : (arrange : Arrange) (a : Shape) (m : store.Meaning) → members_of a ≡ m.members → blocks_of a ≡ m.blocks → sized arrange a ≡ geometry_on arrange m
-same_geometry arrange a m p n =
-    ap (λ (x : ℕ). record { arrange = arrange; members = x; blocks = blocks_of a }) p ∙ ap (λ (x : ℕ). record { arrange = arrange; members = m.members; blocks = x }) n
+use Rattle.array.proofs.Kept.{shape_geometry}
 
 module _ (arrange : Arrange) (q : State) (c : Contents) (m : store.Meaning) (l : intent.Meaning) (down : q ≡ Down) where
   abbrev before : Meaning
@@ -39,19 +36,25 @@ module _ (arrange : Arrange) (q : State) (c : Contents) (m : store.Meaning) (l :
   checked r t z h = subst (λ b. options.MatchOption (cond b None (Some (Limits m.members m.blocks))) (Performs (format_actions here) tt Down c before r t) (λ e. Declines e before r t)) (sym z) h
 
   module _ (a : Shape) (z : Sized m) (p : members_of a ≡ m.members) (n : blocks_of a ≡ m.blocks) (m' : store.Meaning) (l' : intent.Meaning) where
-    pub formats : AllAccepted (format_actions (sized arrange a)) m l m' l' → Formats here before (Ok tt) (array q c m' l')
-    formats h =
-        in_down (Ok tt) (array q c m' l')
-        (checked (Ok tt) (array q c m' l') z (refl, subst (λ g. AllAccepted (format_actions g) m l m' l') (same_geometry arrange a m p n) h, ap (λ x. array x c m' l') down))
+    abbrev Worked : Plain → Type 0
+    Worked r = Works (format_actions (sized arrange a)) tt m l r m' l'
 
-    pub formats_cut : (e : ArrayRefusal) → FirstRefused (format_actions (sized arrange a)) m l e m' l' → Formats here before (Err e) (array Fallen c m' l')
-    formats_cut e h =
-        in_down (Err e) (array Fallen c m' l')
-        (checked (Err e) (array Fallen c m' l') z (subst (λ g. FirstRefused (format_actions g) m l e m' l') (same_geometry arrange a m p n) h, refl))
+    fallen : (e : ArrayRefusal) → Worked (Err e) → state_told q e ≡ Fallen
+    fallen e h = fell q (format_actions (sized arrange a)) m l e m' l' h
+
+    pub formats : (r : Plain) → Worked r → Formats here before r (array (state_after q r) c m' l')
+    formats (Ok u) h =
+        in_down (Ok tt) (array q c m' l')
+        (checked (Ok tt) (array q c m' l') z (refl, subst (λ g. AllAccepted (format_actions g) m l m' l') (shape_geometry arrange a m p n) h.1, ap (λ x. array x c m' l') down))
+    formats (Err e) h =
+        subst (λ x. Formats here before (Err e) (array x c m' l')) (sym (fallen e h))
+        (in_down (Err e) (array Fallen c m' l')
+        (checked (Err e) (array Fallen c m' l') z (subst (λ g. FirstRefused (format_actions g) m l e m' l') (shape_geometry arrange a m p n) h, refl)))
 
     -- the log has power after a format
-    pub still_on : AllAccepted (format_actions (sized arrange a)) m l m' l' → l'.on ≡ true
+    still_on : AllAccepted (format_actions (sized arrange a)) m l m' l' → l'.on ≡ true
     still_on h = ap (λ k. k.on) h.3.3.3.1 ∙ h.3.3.2.1.1.on
 
-    pub formatted_sound : (sound : Type 0) → sound → AllAccepted (format_actions (sized arrange a)) m l m' l' → SoundIn q sound m' l'
-    formatted_sound sound s h = subst (λ x. SoundIn x sound m' l') (sym down) (s, still_on h)
+    pub formatted_sound : (sound : Type 0) → sound → (r : Plain) → Worked r → SoundIn (state_after q r) sound m' l'
+    formatted_sound sound s (Ok u) h = subst (λ x. SoundIn x sound m' l') (sym down) (s, still_on h.1)
+    formatted_sound sound s (Err e) h = subst (λ x. SoundIn x sound m' l') (sym (fallen e h)) tt

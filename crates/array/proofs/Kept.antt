@@ -47,13 +47,17 @@ pub all_on : (acts : List Action) (m : store.Meaning) (l : intent.Meaning) (m' :
 all_on [] m l m' l' on d = ap (λ k. k.on) d.1 ∙ on
 all_on (a ∷ acts) m l m' l' on d = all_on acts d.0 d.1 m' l' (action_on a m l d.0 d.1 on d.2) d.3
 
+-- a sound array, by its state
+pub sound_as : (q p : State) (sound : Type 0) (m : store.Meaning) (l : intent.Meaning) → q ≡ p → SoundIn q sound m l → SoundIn p sound m l
+sound_as q p sound m l e h = subst (λ x. SoundIn x sound m l) e h
+
 -- a ready or short array, where the counts stay
 pub ready_still : (q : State) (sound : Type 0) (m m' : store.Meaning) (l : intent.Meaning) → q ≡ Ready → SameCounts m m' → SoundIn q sound m l → SoundIn q sound m' l
 ready_still q sound m m' l e s h =
-    let d = subst (λ x. SoundIn x sound m l) e h in
+    let d = sound_as q Ready sound m l e h in
     subst (λ x. SoundIn x sound m' l) (sym e) (d.0, sized_still m m' s d.1)
 
 pub short_still : (q : State) (d : ℕ) (sound : Type 0) (m m' : store.Meaning) (l : intent.Meaning) → q ≡ Short d → SameCounts m m' → SoundIn q sound m l → SoundIn q sound m' l
 short_still q d sound m m' l e s h =
-    let k = subst (λ x. SoundIn x sound m l) e h in
+    let k = sound_as q (Short d) sound m l e h in
     subst (λ x. SoundIn x sound m' l) (sym e) (k.0, sized_still m m' s k.1)

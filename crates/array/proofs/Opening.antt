@@ -1,5 +1,5 @@
 -- The openings. Assumes nothing.
-use Rattle.std.proofs.Common.{◌≡◌, ℕ, ◌<◌, cond, IfOk, Some, None, Ok, Err, Option, Result, sym, refl, ap, subst, arith}
+use Rattle.std.proofs.Common.{◌≡◌, ℕ, ◌<◌, cond, Some, None, Ok, Err, Option, sym, refl, ap, subst}
 use Rattle.std.proofs.lemmas.Bool.{lt-ltb}
 use Rattle.std.specs.Option.{option_or}
 use Rattle.member_store.specs.Meaning as store
@@ -8,31 +8,13 @@ use Rattle.cache.specs.Contents.{Contents}
 use Rattle.array_model.specs.Meaning.{Meaning, Arrange, Geometry, geometry_on, array, in_state}
 use Rattle.array_model.specs.Checks.{limits_check, member_check, open_checks, open_short_checks}
 use Rattle.array_model.specs.Work.{Declines}
-use Rattle.array_model.specs.Calls.{Plain, Checked, NotAllowed, InDown, begun, Opens, OpensShort}
+use Rattle.array_model.specs.Calls.{Plain, Checked, InDown, begun, Opens, OpensShort}
 use Rattle.array_model.specs.declared.state.State.{State}
-use Rattle.array_model.specs.declared.state.State.TheVariants.{Fallen, Down, Resync, Ready, Short}
+use Rattle.array_model.specs.declared.state.State.TheVariants.{Down, Resync, Short}
 use Rattle.array_model.specs.declared.refusal.ArrayRefusal.{ArrayRefusal}
-use Rattle.array_model.specs.declared.refusal.ArrayRefusal.TheVariants.{Limits, WrongState, NoMember}
-use Rattle.array.specs.Sound.{LogOn, Sized, SoundIn, verdict}
+use Rattle.array_model.specs.declared.refusal.ArrayRefusal.TheVariants.{Limits, NoMember}
+use Rattle.array.specs.Sound.{Sized, verdict}
 use Rattle.array.proofs.Verdicts.{passed, refused}
-
--- a call that only down allows, in another state
-pub not_down : {A : Type 0} (P : Meaning → Result A ArrayRefusal → Meaning → Type 0) (q : State) (s : Meaning) (r : Result A ArrayRefusal) (t : Meaning) → (q ≡ Down → ⊥) → NotAllowed s r t → InDown P q s r t
-not_down P Fallen s r t n h = h
-not_down P Down s r t n h = absurd (n refl)
-not_down P (Resync p) s r t n h = h
-not_down P Ready s r t n h = h
-not_down P (Short d) s r t n h = h
-
--- a sound array that is down
-pub down_log : (q : State) (sound : Type 0) (m : store.Meaning) (l : intent.Meaning) → q ≡ Down → SoundIn q sound m l → LogOn sound l
-down_log q sound m l e h = subst (λ x. SoundIn x sound m l) e h
-
-pub begun_sound : (q : State) (sound : Type 0) (m : store.Meaning) (l : intent.Meaning) → q ≡ Down → Sized m → SoundIn q sound m l → SoundIn (Resync begun) sound m l
-begun_sound q sound m l e z h = (down_log q sound m l e h, z, record { next_most = omega arith; read_most = omega arith; mended_most = omega arith })
-
-pub short_sound : (q : State) (d : ℕ) (sound : Type 0) (m : store.Meaning) (l : intent.Meaning) → q ≡ Down → Sized m → SoundIn q sound m l → SoundIn (Short d) sound m l
-short_sound q d sound m l e z h = (down_log q sound m l e h, z)
 
 module _ (g : Geometry) (q : State) (c : Contents) (m : store.Meaning) (l : intent.Meaning) where
   abbrev before : Meaning
@@ -51,9 +33,6 @@ module _ (g : Geometry) (q : State) (c : Contents) (m : store.Meaning) (l : inte
       subst (λ x. InDown Opened x before (Err e) before) (sym d)
       (refused _ (λ x. Declines x before (Err e) before) (open_checks g before) e h (refl, refl))
 
-  pub opens_not : (q ≡ Down → ⊥) → Opens g before (Err (WrongState q)) before
-  opens_not n = not_down Opened q before (Err (WrongState q)) before n (refl, refl)
-
   module _ (d : ℕ) where
     abbrev OpenedShort : Meaning → Plain → Meaning → Type 0
     OpenedShort s r t = Checked (open_short_checks g d s) s r t ((r ≡ Ok tt) × (t ≡ in_state (Short d) s))
@@ -68,16 +47,9 @@ module _ (g : Geometry) (q : State) (c : Contents) (m : store.Meaning) (l : inte
         subst (λ x. InDown OpenedShort x before (Err e) before) (sym k)
         (refused _ (λ x. Declines x before (Err e) before) (open_short_checks g d before) e h (refl, refl))
 
-    pub opens_short_not : (q ≡ Down → ⊥) → OpensShort g d before (Err (WrongState q)) before
-    opens_short_not n = not_down OpenedShort q before (Err (WrongState q)) before n (refl, refl)
-
 -- the checks of the openings, once those before have passed
 pub within_limits : (arrange : Arrange) (m : store.Meaning) (o : Option ArrayRefusal) → Sized m → verdict o ≡ verdict (option_or (limits_check (geometry_on arrange m)) o)
 within_limits arrange m o z = ap (λ b. verdict (option_or (cond b None (Some (Limits m.members m.blocks))) o)) (sym z)
 
 pub has_member : (g : Geometry) (d : ℕ) (o : Option ArrayRefusal) → d < g.members → verdict o ≡ verdict (option_or (member_check g d) o)
 has_member g d o h = ap (λ b. verdict (option_or (cond b None (Some (NoMember d))) o)) (sym (lt-ltb d g.members h))
-
-pub whichever : (X : Type 0) (r : Plain) → X → IfOk r (λ _. X)
-whichever X (Ok u) x = x
-whichever X (Err e) x = tt

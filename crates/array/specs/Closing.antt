@@ -4,26 +4,22 @@ use Rattle.array_model.specs.Calls.{Plain}
 use Rattle.array_model.specs.declared.state.State.{State}
 use Rattle.array_model.specs.declared.state.State.TheVariants.{Fallen, Down, Resync, Ready, Short}
 use Rattle.array_model.specs.declared.refusal.ArrayRefusal.TheVariants.{WrongState}
-use Rattle.array.specs.declared.tokens.ReadyPermit.{ReadyPermit}
-use Rattle.array.specs.declared.refusal.CloseRefusal.{CloseRefusal}
-use Rattle.array.specs.declared.refusal.CloseRefusal.TheVariants.{Returned, Taken}
+use Rattle.array.specs.declared.tokens.Token.{Token}
+use Rattle.array.specs.declared.tokens.Writing.{Writing}
+use Rattle.array.specs.declared.refusal.TokenRefusal.{TokenRefusal}
+use Rattle.array.specs.declared.refusal.TokenRefusal.TheVariants.{Returned, Taken}
+use Rattle.array.specs.Tickets.{TokenTaken}
 
 -- What a close answers without its permit.
-abbrev pub closed : Result (Unit {0}) CloseRefusal → Plain
+abbrev pub closed : Result (Unit {0}) (TokenRefusal Writing) → Plain
 closed (Ok a) = Ok tt
 closed (Err (Returned q permit)) = Err (WrongState q)
 closed (Err (Taken e)) = Err e
 
--- The permit was taken.
-abbrev pub PermitTaken : Result (Unit {0}) CloseRefusal → Type 0
-PermitTaken (Ok a) = Unit {0}
-PermitTaken (Err (Returned q p)) = ⊥
-PermitTaken (Err (Taken e)) = Unit {0}
-
 -- A ready array's close takes the permit, refused or not; in any other state it comes back.
-abbrev pub PermitBack : State → ReadyPermit → Result (Unit {0}) CloseRefusal → Type 0
+abbrev pub PermitBack : State → Token Writing → Result (Unit {0}) (TokenRefusal Writing) → Type 0
 PermitBack Fallen permit r = r ≡ Err (Returned Fallen permit)
 PermitBack Down permit r = r ≡ Err (Returned Down permit)
 PermitBack (Resync p) permit r = r ≡ Err (Returned (Resync p) permit)
-PermitBack Ready permit r = PermitTaken r
+PermitBack Ready permit r = TokenTaken r
 PermitBack (Short d) permit r = r ≡ Err (Returned (Short d) permit)

@@ -15,10 +15,7 @@ pub(super) fn check_block<S: MemberStore>(
 ) -> Result<Shape, ArrayRefusal>
     ensures { BlockChecked (S.MemberStore.meaning store.now) block length result }
 {
-    let shape = match shape_of(store) {
-        Ok(shape) => shape,
-        Err(limits) => return Err(limits),
-    };
+    let shape = shape_of(store)?;
     if block >= shape.data_blocks() {
         return Err(ArrayRefusal::NoBlock(block));
     }

@@ -10,8 +10,5 @@ use member_store::MemberStore;
 pub(super) fn shape_of<S: MemberStore>(store: &S) -> Result<Shape, ArrayRefusal>
     ensures { Sizes (S.MemberStore.meaning store.now) result }
 {
-    match Shape::new(store.members(), store.blocks()) {
-        Ok(shape) => Ok(shape),
-        Err(e) => Err(ArrayRefusal::Limits(e.members, e.blocks)),
-    }
+    Ok(Shape::new(store.members(), store.blocks())?)
 }

@@ -9,6 +9,7 @@ ghost use Rattle.array.specs.Sound.{means, Sound};
 ghost use Rattle.array.specs.Closing.{closed, PermitBack};
 
 use crate::array::Array;
+use crate::outcome::or_fall;
 use crate::refusal::CloseRefusal;
 use crate::tokens::ReadyPermit;
 use array_model::refusal::ArrayRefusal;
@@ -23,17 +24,10 @@ impl<S: MemberStore, G: IntentLog, L: Layout> Array<S, G, L> {
         ensures sound { G.IntentLog.sound self.old.log → Sound S.MemberStore.meaning G.IntentLog.meaning G.IntentLog.sound self.new }
         ensures does { G.IntentLog.sound self.old.log → Performs (clear_action ∷ []) tt Down no_contents (means S.MemberStore.meaning G.IntentLog.meaning self.old) result (means S.MemberStore.meaning G.IntentLog.meaning self.new) }
     {
-        match self.log.clear() {
-            Ok(()) => {
-                self.caches.clear();
-                self.state = State::Down;
-                Ok(())
-            }
-            Err(e) => {
-                self.state = State::Fallen;
-                Err(ArrayRefusal::Log(e))
-            }
-        }
+        or_fall(&mut self.state, self.log.clear().map_err(ArrayRefusal::Log))?;
+        self.caches.clear();
+        self.state = State::Down;
+        Ok(())
     }
 
     // A close, once the state allows it: flushes, then clears the log. Refused: fallen.
@@ -59,10 +53,7 @@ impl<S: MemberStore, G: IntentLog, L: Layout> Array<S, G, L> {
         ensures back { PermitBack self.old.state permit result }
     {
         match self.state {
-            State::Ready => match self.close_ready(permit) {
-                Ok(()) => Ok(()),
-                Err(e) => Err(CloseRefusal::Taken(e)),
-            },
+            State::Ready => self.close_ready(permit).map_err(CloseRefusal::Taken),
             State::Fallen | State::Down | State::Resync(_) | State::Short(_) => Err(
                 CloseRefusal::Returned(self.state, permit),
             ),

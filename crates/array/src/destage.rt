@@ -2,12 +2,11 @@
 ghost use Rattle.std.specs.Prelude.{◌≡◌};
 ghost use Rattle.array_model.specs.Meaning.{geometry};
 ghost use Rattle.array_model.specs.Calls.{Destages};
-ghost use Rattle.array_model.specs.declared.state.State.TheVariants.{Ready};
-ghost use Rattle.array_work.specs.Outcomes.{state_told};
 ghost use Rattle.array.specs.Sound.{means, Sound};
 
 use crate::array::Array;
 use crate::checks::shape_of;
+use crate::outcome::or_fall;
 use crate::tokens::ReadyPermit;
 use array_model::answer::Destage;
 use array_model::refusal::ArrayRefusal;
@@ -18,16 +17,6 @@ use geometry::layout::Layout;
 use intent_log::IntentLog;
 use member_store::MemberStore;
 
-// The state of a ready array after a refusal: a spent log leaves it, else power was missing.
-pub(super) fn state_refused(refusal: ArrayRefusal) -> State
-    ensures { result ≡ state_told Ready refusal }
-{
-    match refusal {
-        ArrayRefusal::LogSpent => State::Ready,
-        _ => State::Fallen,
-    }
-}
-
 impl<S: MemberStore, G: IntentLog, L: Layout> Array<S, G, L> {
     /// Moves the lowest stripe of the destaging cache. Where that cache is empty, names the stripes of the buffering cache
     /// and lets the caches change places; where both are empty, it is idle.
@@ -36,24 +25,20 @@ impl<S: MemberStore, G: IntentLog, L: Layout> Array<S, G, L> {
         ensures does { Sound S.MemberStore.meaning G.IntentLog.meaning G.IntentLog.sound self.old → Destages (geometry L.Layout.arrangement (means S.MemberStore.meaning G.IntentLog.meaning self.old)) (means S.MemberStore.meaning G.IntentLog.meaning self.old) result (means S.MemberStore.meaning G.IntentLog.meaning self.new) }
     {
         match self.state {
-            State::Ready => match shape_of(&self.store) {
-                Ok(shape) => match destage_once(
+            State::Ready => {
+                let shape = shape_of(&self.store)?;
+                let geometry = Geometry {
+                    layout: &self.layout,
+                    shape,
+                };
+                let outcome = destage_once(
                     &mut self.store,
                     &mut self.log,
-                    &Geometry {
-                        layout: &self.layout,
-                        shape,
-                    },
+                    &geometry,
                     &mut self.caches,
-                ) {
-                    Ok(done) => Ok(done),
-                    Err(cut) => {
-                        self.state = state_refused(cut);
-                        Err(cut)
-                    }
-                },
-                Err(limits) => Err(limits),
-            },
+                );
+                or_fall(&mut self.state, outcome)
+            }
             State::Fallen | State::Down | State::Resync(_) | State::Short(_) => Err(
                 ArrayRefusal::WrongState(self.state),
             ),

@@ -10,7 +10,9 @@ ghost use Rattle.array.specs.Tickets.{counted, TicketBack};
 
 use crate::array::Array;
 use crate::next::next_stripe;
-use crate::tokens::{FinishRefusal, ReadyPermit, ResyncTicket};
+use crate::outcome::or_fall;
+use crate::refusal::FinishRefusal;
+use crate::tokens::{ReadyPermit, ResyncTicket};
 use array_model::answer::ResyncCounts;
 use array_model::refusal::ArrayRefusal;
 use array_model::state::{Progress, State};
@@ -25,19 +27,13 @@ impl<S: MemberStore, G: IntentLog, L: Layout> Array<S, G, L> {
         ensures sound { LogOn (G.IntentLog.sound self.old.log) (G.IntentLog.meaning self.old.log) → Sized (S.MemberStore.meaning self.old.store) → Sound S.MemberStore.meaning G.IntentLog.meaning G.IntentLog.sound self.new }
         ensures does { G.IntentLog.sound self.old.log → Performs finish_actions (totals progress) Ready (contents self.old.caches) (means S.MemberStore.meaning G.IntentLog.meaning self.old) result (means S.MemberStore.meaning G.IntentLog.meaning self.new) }
     {
-        match finish_work(&mut self.store, &mut self.log) {
-            Ok(()) => {
-                self.state = State::Ready;
-                Ok(ResyncCounts {
-                    read: progress.read,
-                    mended: progress.mended,
-                })
-            }
-            Err(e) => {
-                self.state = State::Fallen;
-                Err(e)
-            }
-        }
+        let outcome = finish_work(&mut self.store, &mut self.log);
+        or_fall(&mut self.state, outcome)?;
+        self.state = State::Ready;
+        Ok(ResyncCounts {
+            read: progress.read,
+            mended: progress.mended,
+        })
     }
 
     // A finish, once the state allows it: refused where a named stripe is left.
@@ -45,15 +41,13 @@ impl<S: MemberStore, G: IntentLog, L: Layout> Array<S, G, L> {
         ensures sound { LogOn (G.IntentLog.sound self.old.log) (G.IntentLog.meaning self.old.log) → Sized (S.MemberStore.meaning self.old.store) → Sound S.MemberStore.meaning G.IntentLog.meaning G.IntentLog.sound self.new }
         ensures does { LogOn (G.IntentLog.sound self.old.log) (G.IntentLog.meaning self.old.log) → Sized (S.MemberStore.meaning self.old.store) → FinishesFrom (geometry L.Layout.arrangement (means S.MemberStore.meaning G.IntentLog.meaning self.old)) progress (means S.MemberStore.meaning G.IntentLog.meaning self.old) result (means S.MemberStore.meaning G.IntentLog.meaning self.new) }
     {
-        match next_stripe(&self.store, &self.log, progress.next) {
-            Ok(next) => match next.1 {
-                Some(stripe) => {
-                    self.state = State::Down;
-                    Err(ArrayRefusal::StripeLeft(stripe))
-                }
-                None => self.settle(progress),
-            },
-            Err(e) => Err(e),
+        let (_, left) = next_stripe(&self.store, &self.log, progress.next)?;
+        match left {
+            Some(stripe) => {
+                self.state = State::Down;
+                Err(ArrayRefusal::StripeLeft(stripe))
+            }
+            None => self.settle(progress),
         }
     }
 
@@ -70,10 +64,8 @@ impl<S: MemberStore, G: IntentLog, L: Layout> Array<S, G, L> {
         match self.state {
             State::Resync(progress) => {
                 ticket.spend();
-                match self.finish_resync(progress) {
-                    Ok(counts) => Ok((ReadyPermit::new(), counts)),
-                    Err(e) => Err(FinishRefusal::Taken(e)),
-                }
+                let counts = self.finish_resync(progress).map_err(FinishRefusal::Taken)?;
+                Ok((ReadyPermit::new(), counts))
             }
             State::Fallen | State::Down | State::Ready | State::Short(_) => Err(
                 FinishRefusal::Returned(self.state, ticket),

@@ -6,7 +6,7 @@ ghost use Rattle.array.specs.Sound.{means, Sound};
 
 use crate::array::Array;
 use crate::checks::shape_of;
-use crate::destage::state_refused;
+use crate::outcome::or_fall;
 use crate::tokens::ReadyPermit;
 use array_model::answer::FlushCounts;
 use array_model::refusal::ArrayRefusal;
@@ -24,24 +24,20 @@ impl<S: MemberStore, G: IntentLog, L: Layout> Array<S, G, L> {
         ensures does { Sound S.MemberStore.meaning G.IntentLog.meaning G.IntentLog.sound self.old → Flushes (geometry L.Layout.arrangement (means S.MemberStore.meaning G.IntentLog.meaning self.old)) (means S.MemberStore.meaning G.IntentLog.meaning self.old) result (means S.MemberStore.meaning G.IntentLog.meaning self.new) }
     {
         match self.state {
-            State::Ready => match shape_of(&self.store) {
-                Ok(shape) => match flush_all(
+            State::Ready => {
+                let shape = shape_of(&self.store)?;
+                let geometry = Geometry {
+                    layout: &self.layout,
+                    shape,
+                };
+                let outcome = flush_all(
                     &mut self.store,
                     &mut self.log,
-                    &Geometry {
-                        layout: &self.layout,
-                        shape,
-                    },
+                    &geometry,
                     &mut self.caches,
-                ) {
-                    Ok(counts) => Ok(counts),
-                    Err(cut) => {
-                        self.state = state_refused(cut);
-                        Err(cut)
-                    }
-                },
-                Err(limits) => Err(limits),
-            },
+                );
+                or_fall(&mut self.state, outcome)
+            }
             State::Fallen | State::Down | State::Resync(_) | State::Short(_) => Err(
                 ArrayRefusal::WrongState(self.state),
             ),

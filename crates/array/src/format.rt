@@ -6,6 +6,7 @@ ghost use Rattle.array.specs.Sound.{means, Sound};
 
 use crate::array::Array;
 use crate::checks::shape_of;
+use crate::outcome::or_fall;
 use array_model::refusal::ArrayRefusal;
 use array_model::state::State;
 use array_work::format::format_work;
@@ -20,16 +21,11 @@ impl<S: MemberStore, G: IntentLog, L: Layout> Array<S, G, L> {
         ensures does { Sound S.MemberStore.meaning G.IntentLog.meaning G.IntentLog.sound self.old → Formats (geometry L.Layout.arrangement (means S.MemberStore.meaning G.IntentLog.meaning self.old)) (means S.MemberStore.meaning G.IntentLog.meaning self.old) result (means S.MemberStore.meaning G.IntentLog.meaning self.new) }
     {
         match self.state {
-            State::Down => match shape_of(&self.store) {
-                Ok(shape) => match format_work(&mut self.store, &mut self.log, shape) {
-                    Ok(()) => Ok(()),
-                    Err(e) => {
-                        self.state = State::Fallen;
-                        Err(e)
-                    }
-                },
-                Err(e) => Err(e),
-            },
+            State::Down => {
+                let shape = shape_of(&self.store)?;
+                let outcome = format_work(&mut self.store, &mut self.log, shape);
+                or_fall(&mut self.state, outcome)
+            }
             State::Fallen | State::Resync(_) | State::Ready | State::Short(_) => Err(
                 ArrayRefusal::WrongState(self.state),
             ),

@@ -4,7 +4,7 @@ ghost use Rattle.array_model.specs.Calls.{GivesUp, given_up};
 ghost use Rattle.array.specs.Sound.{means, Sound};
 
 use crate::array::Array;
-use crate::tokens::{ReadyPermit, ResyncTicket, ShortPermit};
+use crate::tokens::Token;
 use array_model::state::State;
 use geometry::layout::Layout;
 use intent_log::IntentLog;
@@ -16,47 +16,18 @@ fn state_given_up(state: State) -> State
 {
     match state {
         State::Fallen => State::Fallen,
-        State::Down => State::Down,
-        State::Resync(_) => State::Down,
-        State::Ready => State::Down,
-        State::Short(_) => State::Down,
+        State::Down | State::Resync(_) | State::Ready | State::Short(_) => State::Down,
     }
 }
 
 impl<S: MemberStore, G: IntentLog, L: Layout> Array<S, G, L> {
-    // Empties the caches and leaves the opening.
-    fn leave(&mut self)
+    /// Takes a ticket or permit back: empties the caches and leaves the opening.
+    pub fn give_up<K>(&mut self, token: Token<K>)
         ensures sound { Sound S.MemberStore.meaning G.IntentLog.meaning G.IntentLog.sound self.old → Sound S.MemberStore.meaning G.IntentLog.meaning G.IntentLog.sound self.new }
         ensures does { GivesUp (means S.MemberStore.meaning G.IntentLog.meaning self.old) (means S.MemberStore.meaning G.IntentLog.meaning self.new) }
     {
+        token.spend();
         self.caches.clear();
         self.state = state_given_up(self.state);
-    }
-
-    /// Takes a resync ticket back.
-    pub fn give_up_resync(&mut self, ticket: ResyncTicket)
-        ensures sound { Sound S.MemberStore.meaning G.IntentLog.meaning G.IntentLog.sound self.old → Sound S.MemberStore.meaning G.IntentLog.meaning G.IntentLog.sound self.new }
-        ensures does { GivesUp (means S.MemberStore.meaning G.IntentLog.meaning self.old) (means S.MemberStore.meaning G.IntentLog.meaning self.new) }
-    {
-        ticket.spend();
-        self.leave();
-    }
-
-    /// Takes a ready permit back.
-    pub fn give_up_ready(&mut self, permit: ReadyPermit)
-        ensures sound { Sound S.MemberStore.meaning G.IntentLog.meaning G.IntentLog.sound self.old → Sound S.MemberStore.meaning G.IntentLog.meaning G.IntentLog.sound self.new }
-        ensures does { GivesUp (means S.MemberStore.meaning G.IntentLog.meaning self.old) (means S.MemberStore.meaning G.IntentLog.meaning self.new) }
-    {
-        permit.spend();
-        self.leave();
-    }
-
-    /// Takes a short permit back.
-    pub fn give_up_short(&mut self, permit: ShortPermit)
-        ensures sound { Sound S.MemberStore.meaning G.IntentLog.meaning G.IntentLog.sound self.old → Sound S.MemberStore.meaning G.IntentLog.meaning G.IntentLog.sound self.new }
-        ensures does { GivesUp (means S.MemberStore.meaning G.IntentLog.meaning self.old) (means S.MemberStore.meaning G.IntentLog.meaning self.new) }
-    {
-        permit.spend();
-        self.leave();
     }
 }

@@ -13,6 +13,7 @@ mod give_up;
 mod new;
 mod next;
 mod open;
+mod outcome;
 mod power;
 mod questions;
 mod read;

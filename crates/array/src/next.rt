@@ -19,11 +19,7 @@ pub(super) fn next_stripe<S: MemberStore, G: IntentLog>(
     ensures inside { IfOk result (λ a. Inside a.0 a.1) }
     ensures finds { LogOn (G.IntentLog.sound log.now) (G.IntentLog.meaning log.now) → Sized (S.MemberStore.meaning store.now) → FindsNext (S.MemberStore.meaning store.now) (G.IntentLog.meaning log.now) from result }
 {
-    match shape_of(store) {
-        Ok(shape) => match next_due(log, shape, from) {
-            Ok(found) => Ok((shape, found)),
-            Err(e) => Err(ArrayRefusal::Log(e)),
-        },
-        Err(e) => Err(e),
-    }
+    let shape = shape_of(store)?;
+    let stripe = next_due(log, shape, from)?;
+    Ok((shape, stripe))
 }

@@ -18,29 +18,20 @@ use intent_log::IntentLog;
 use member_store::MemberStore;
 
 // A resynchronization that begins.
-fn nothing_taken() -> Progress
-    ensures { result ≡ begun }
-{
-    Progress {
-        next: 0,
-        read: 0,
-        mended: 0,
-    }
-}
+const NOTHING_TAKEN: Progress = Progress {
+    next: 0,
+    read: 0,
+    mended: 0,
+};
 
 // Does a record stand?
 fn check_record<G: IntentLog>(log: &G) -> Result<(), ArrayRefusal>
     ensures { (q : StateOf) (c : Contents) (m : StoreMeaning) → LogOn (G.IntentLog.sound log.now) (G.IntentLog.meaning log.now) → result ≡ verdict (record_check (array_of q c m (G.IntentLog.meaning log.now))) }
 {
-    match log.stands() {
-        Ok(stands) => {
-            if stands {
-                return Ok(());
-            }
-            Err(ArrayRefusal::NoRecord)
-        }
-        Err(e) => Err(ArrayRefusal::Log(e)),
+    if log.stands()? {
+        return Ok(());
     }
+    Err(ArrayRefusal::NoRecord)
 }
 
 // The checks of an opening, after that of the state.
@@ -48,10 +39,8 @@ fn check_open<S: MemberStore, G: IntentLog>(store: &S, log: &G) -> Result<(), Ar
     ensures sized { OnOk result (Sized (S.MemberStore.meaning store.now)) }
     ensures checks { (arrange : Arrange) (q : StateOf) (c : Contents) → LogOn (G.IntentLog.sound log.now) (G.IntentLog.meaning log.now) → result ≡ verdict (open_checks (geometry_on arrange (S.MemberStore.meaning store.now)) (array_of q c (S.MemberStore.meaning store.now) (G.IntentLog.meaning log.now))) }
 {
-    match shape_of(store) {
-        Ok(_) => check_record(log),
-        Err(e) => Err(e),
-    }
+    shape_of(store)?;
+    check_record(log)
 }
 
 // The checks of an opening without one member, after that of the state.
@@ -63,13 +52,11 @@ fn check_open_short<S: MemberStore, G: IntentLog>(
     ensures sized { OnOk result (Sized (S.MemberStore.meaning store.now)) }
     ensures checks { (arrange : Arrange) (q : StateOf) (c : Contents) → LogOn (G.IntentLog.sound log.now) (G.IntentLog.meaning log.now) → result ≡ verdict (open_short_checks (geometry_on arrange (S.MemberStore.meaning store.now)) absent (array_of q c (S.MemberStore.meaning store.now) (G.IntentLog.meaning log.now))) }
 {
-    if let Err(e) = shape_of(store) {
-        return Err(e);
+    shape_of(store)?;
+    if absent >= store.members() {
+        return Err(ArrayRefusal::NoMember(absent));
     }
-    if absent < store.members() {
-        return check_record(log);
-    }
-    Err(ArrayRefusal::NoMember(absent))
+    check_record(log)
 }
 
 impl<S: MemberStore, G: IntentLog, L: Layout> Array<S, G, L> {
@@ -79,13 +66,11 @@ impl<S: MemberStore, G: IntentLog, L: Layout> Array<S, G, L> {
         ensures does { Sound S.MemberStore.meaning G.IntentLog.meaning G.IntentLog.sound self.old → Opens (geometry L.Layout.arrangement (means S.MemberStore.meaning G.IntentLog.meaning self.old)) (means S.MemberStore.meaning G.IntentLog.meaning self.old) (plain result) (means S.MemberStore.meaning G.IntentLog.meaning self.new) }
     {
         match self.state {
-            State::Down => match check_open(&self.store, &self.log) {
-                Ok(()) => {
-                    self.state = State::Resync(nothing_taken());
-                    Ok(ResyncTicket::new())
-                }
-                Err(e) => Err(e),
-            },
+            State::Down => {
+                check_open(&self.store, &self.log)?;
+                self.state = State::Resync(NOTHING_TAKEN);
+                Ok(ResyncTicket::new())
+            }
             State::Fallen | State::Resync(_) | State::Ready | State::Short(_) => Err(
                 ArrayRefusal::WrongState(self.state),
             ),
@@ -98,13 +83,11 @@ impl<S: MemberStore, G: IntentLog, L: Layout> Array<S, G, L> {
         ensures does { Sound S.MemberStore.meaning G.IntentLog.meaning G.IntentLog.sound self.old → OpensShort (geometry L.Layout.arrangement (means S.MemberStore.meaning G.IntentLog.meaning self.old)) absent (means S.MemberStore.meaning G.IntentLog.meaning self.old) (plain result) (means S.MemberStore.meaning G.IntentLog.meaning self.new) }
     {
         match self.state {
-            State::Down => match check_open_short(&self.store, &self.log, absent) {
-                Ok(()) => {
-                    self.state = State::Short(absent);
-                    Ok(ShortPermit::new())
-                }
-                Err(e) => Err(e),
-            },
+            State::Down => {
+                check_open_short(&self.store, &self.log, absent)?;
+                self.state = State::Short(absent);
+                Ok(ShortPermit::new())
+            }
             State::Fallen | State::Resync(_) | State::Ready | State::Short(_) => Err(
                 ArrayRefusal::WrongState(self.state),
             ),

@@ -6,6 +6,7 @@ ghost use Rattle.array_model.specs.declared.refusal.ArrayRefusal.TheVariants.{Lo
 ghost use Rattle.array.specs.Sound.{means, Sound};
 
 use crate::array::Array;
+use crate::outcome::or_fall;
 use array_model::refusal::ArrayRefusal;
 use array_model::state::State;
 use array_work::power::power_on_work;
@@ -21,15 +22,9 @@ impl<S: MemberStore, G: IntentLog, L: Layout> Array<S, G, L> {
         ensures own { S.MemberStore.powering self.old.store self.new.store × MatchResult result (λ _. G.IntentLog.powering self.old.log (Ok tt) self.new.log) (λ e. (d : Cause) × (e ≡ FromLog d) × G.IntentLog.powering self.old.log (Err d) self.new.log) }
     {
         self.caches.clear();
-        match power_on_work(&mut self.store, &mut self.log) {
-            Ok(()) => {
-                self.state = State::Down;
-                Ok(())
-            }
-            Err(e) => {
-                self.state = State::Fallen;
-                Err(e)
-            }
-        }
+        let outcome = power_on_work(&mut self.store, &mut self.log);
+        or_fall(&mut self.state, outcome)?;
+        self.state = State::Down;
+        Ok(())
     }
 }

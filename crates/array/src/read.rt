@@ -6,6 +6,7 @@ ghost use Rattle.array.specs.Sound.{means, Sound};
 
 use crate::array::Array;
 use crate::block::check_block;
+use crate::outcome::or_fall;
 use crate::tokens::ReadyPermit;
 use array_model::refusal::ArrayRefusal;
 use array_model::state::State;
@@ -28,25 +29,21 @@ impl<S: MemberStore, G: IntentLog, L: Layout> Array<S, G, L> {
         ensures kept { OnErr result (into.new ≡ into.old) }
     {
         match self.state {
-            State::Ready => match check_block(&self.store, block, into.len()) {
-                Ok(shape) => match read_newest(
+            State::Ready => {
+                let shape = check_block(&self.store, block, into.len())?;
+                let geometry = Geometry {
+                    layout: &self.layout,
+                    shape,
+                };
+                let outcome = read_newest(
                     &mut self.store,
-                    &Geometry {
-                        layout: &self.layout,
-                        shape,
-                    },
+                    &geometry,
                     &self.caches,
                     block,
                     into,
-                ) {
-                    Ok(()) => Ok(()),
-                    Err(cut) => {
-                        self.state = State::Fallen;
-                        Err(cut)
-                    }
-                },
-                Err(refusal) => Err(refusal),
-            },
+                );
+                or_fall(&mut self.state, outcome)
+            }
             State::Fallen | State::Down | State::Resync(_) | State::Short(_) => Err(
                 ArrayRefusal::WrongState(self.state),
             ),

@@ -10,44 +10,27 @@ ghost use Rattle.array.specs.Blocks.{absent_check, ShortChecked};
 
 use crate::array::Array;
 use crate::block::check_block;
+use crate::outcome::or_fall;
 use crate::tokens::ShortPermit;
 use array_model::refusal::ArrayRefusal;
 use array_model::state::State;
-use array_work::read::read_without;
+use array_work::read::{address_of_block, read_without};
+use block_address::Address;
 use geometry::array_geometry::Geometry;
 use geometry::layout::Layout;
-use block_address::Address;
 use geometry::shape::Shape;
 use intent_log::IntentLog;
 use member_store::MemberStore;
-
-// The member and the stripe of a block.
-fn place_of<L: Layout>(geometry: &Geometry<L>, block: usize) -> Address
-    requires { block < data_blocks (members_of geometry.now.shape) (blocks_of geometry.now.shape) }
-    ensures member { result.member ≡ holder (sized L.Layout.arrangement geometry.now.shape) block }
-    ensures stripe { result.block ≡ home (sized L.Layout.arrangement geometry.now.shape) block }
-    ensures small { result.block < 16777216 }
-{
-    geometry.data_address(block).unwrap()
-}
 
 // Is this not a named stripe's block on the absent member?
 fn check_absent<G: IntentLog>(log: &G, absent: usize, at: Address) -> Result<(), ArrayRefusal>
     requires { at.block < 16777216 }
     ensures { LogOn (G.IntentLog.sound log.now) (G.IntentLog.meaning log.now) → result ≡ verdict (absent_check at.member at.block absent (G.IntentLog.meaning log.now)) }
 {
-    if at.member != absent {
-        return Ok(());
+    if at.member == absent && log.is_named(at.block as u32)? {
+        return Err(ArrayRefusal::StripeNamed(at.block));
     }
-    match log.is_named(at.block as u32) {
-        Ok(named) => {
-            if named {
-                return Err(ArrayRefusal::StripeNamed(at.block));
-            }
-            Ok(())
-        }
-        Err(e) => Err(ArrayRefusal::Log(e)),
-    }
+    Ok(())
 }
 
 // The checks of a read without one member, after that of the state.
@@ -61,13 +44,10 @@ fn check_short<S: MemberStore, G: IntentLog, L: Layout>(
 ) -> Result<Shape, ArrayRefusal>
     ensures { ShortChecked L.Layout.arrangement (S.MemberStore.meaning store.now) (G.IntentLog.meaning log.now) (LogOn (G.IntentLog.sound log.now) (G.IntentLog.meaning log.now)) absent block length result }
 {
-    match check_block(store, block, length) {
-        Ok(shape) => match check_absent(log, absent, place_of(&Geometry { layout, shape }, block)) {
-            Ok(()) => Ok(shape),
-            Err(named) => Err(named),
-        },
-        Err(refusal) => Err(refusal),
-    }
+    let shape = check_block(store, block, length)?;
+    let at = address_of_block(&Geometry { layout, shape }, block);
+    check_absent(log, absent, at)?;
+    Ok(shape)
 }
 
 impl<S: MemberStore, G: IntentLog, L: Layout> Array<S, G, L> {
@@ -84,32 +64,28 @@ impl<S: MemberStore, G: IntentLog, L: Layout> Array<S, G, L> {
         ensures kept { OnErr result (into.new ≡ into.old) }
     {
         match self.state {
-            State::Short(absent) => match check_short(
-                &self.store,
-                &self.log,
-                &self.layout,
-                absent,
-                block,
-                into.len(),
-            ) {
-                Ok(shape) => match read_without(
+            State::Short(absent) => {
+                let shape = check_short(
+                    &self.store,
+                    &self.log,
+                    &self.layout,
+                    absent,
+                    block,
+                    into.len(),
+                )?;
+                let geometry = Geometry {
+                    layout: &self.layout,
+                    shape,
+                };
+                let outcome = read_without(
                     &mut self.store,
-                    &Geometry {
-                        layout: &self.layout,
-                        shape,
-                    },
+                    &geometry,
                     absent,
                     block,
                     into,
-                ) {
-                    Ok(()) => Ok(()),
-                    Err(cut) => {
-                        self.state = State::Fallen;
-                        Err(cut)
-                    }
-                },
-                Err(refusal) => Err(refusal),
-            },
+                );
+                or_fall(&mut self.state, outcome)
+            }
             State::Fallen | State::Down | State::Resync(_) | State::Ready => Err(
                 ArrayRefusal::WrongState(self.state),
             ),

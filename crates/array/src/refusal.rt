@@ -1,12 +1,18 @@
-// Why a close is refused.
-use crate::tokens::ReadyPermit;
+// Why a call that takes a ticket or permit is refused.
+use crate::tokens::{Resyncing, Token, Writing};
 use array_model::refusal::ArrayRefusal;
 use array_model::state::State;
 
-/// Why a close was refused.
-pub enum CloseRefusal {
-    /// This state does not allow the call: the permit comes back.
-    Returned(State, ReadyPermit),
-    /// Any other refusal: the permit is taken.
+/// Why a call that takes a ticket or permit was refused.
+pub enum TokenRefusal<K> {
+    /// This state does not allow the call: the token comes back.
+    Returned(State, Token<K>),
+    /// Any other refusal: the token is taken.
     Taken(ArrayRefusal),
 }
+
+/// Why a finish was refused.
+pub type FinishRefusal = TokenRefusal<Resyncing>;
+
+/// Why a close was refused.
+pub type CloseRefusal = TokenRefusal<Writing>;

@@ -8,6 +8,7 @@ ghost use Rattle.array.specs.Sound.{means, LogOn, Sized, Bounded, Sound};
 
 use crate::array::Array;
 use crate::next::next_stripe;
+use crate::outcome::or_fall;
 use crate::tokens::ResyncTicket;
 use array_model::answer::TakenStripe;
 use array_model::refusal::ArrayRefusal;
@@ -25,18 +26,10 @@ fn taken(progress: Progress, stripe: usize, mended: bool) -> Progress
     requires { stripe < 16777216 }
     ensures { Bounded progress → result ≡ taken_of progress stripe (not mended) }
 {
-    let read = progress.read.saturating_add(1);
-    if mended {
-        return Progress {
-            next: stripe + 1,
-            read,
-            mended: progress.mended.saturating_add(1),
-        };
-    }
     Progress {
         next: stripe + 1,
-        read,
-        mended: progress.mended,
+        read: progress.read.saturating_add(1),
+        mended: progress.mended.saturating_add(usize::from(mended)),
     }
 }
 
@@ -52,23 +45,14 @@ impl<S: MemberStore, G: IntentLog, L: Layout> Array<S, G, L> {
         ensures sound { LogOn (G.IntentLog.sound self.old.log) (G.IntentLog.meaning self.old.log) → Sized (S.MemberStore.meaning self.old.store) → Bounded progress → progress.next ≤ stripe → Sound S.MemberStore.meaning G.IntentLog.meaning G.IntentLog.sound self.new }
         ensures does { members_of shape ≡ (S.MemberStore.meaning self.old.store).members → blocks_of shape ≡ (S.MemberStore.meaning self.old.store).blocks → Bounded progress → Takes (geometry L.Layout.arrangement (means S.MemberStore.meaning G.IntentLog.meaning self.old)) progress stripe (means S.MemberStore.meaning G.IntentLog.meaning self.old) result (means S.MemberStore.meaning G.IntentLog.meaning self.new) }
     {
-        match take_stripe(
-            &mut self.store,
-            &Geometry {
-                layout: &self.layout,
-                shape,
-            },
-            stripe,
-        ) {
-            Ok(mended) => {
-                self.state = State::Resync(taken(progress, stripe, mended));
-                Ok(Some(TakenStripe { stripe, mended }))
-            }
-            Err(e) => {
-                self.state = State::Fallen;
-                Err(e)
-            }
-        }
+        let geometry = Geometry {
+            layout: &self.layout,
+            shape,
+        };
+        let outcome = take_stripe(&mut self.store, &geometry, stripe);
+        let mended = or_fall(&mut self.state, outcome)?;
+        self.state = State::Resync(taken(progress, stripe, mended));
+        Ok(Some(TakenStripe { stripe, mended }))
     }
 
     /// Takes the next named stripe of the array that is not yet taken, and tells it, or that none is left.
@@ -77,13 +61,13 @@ impl<S: MemberStore, G: IntentLog, L: Layout> Array<S, G, L> {
         ensures does { Sound S.MemberStore.meaning G.IntentLog.meaning G.IntentLog.sound self.old → Steps (geometry L.Layout.arrangement (means S.MemberStore.meaning G.IntentLog.meaning self.old)) (means S.MemberStore.meaning G.IntentLog.meaning self.old) result (means S.MemberStore.meaning G.IntentLog.meaning self.new) }
     {
         match self.state {
-            State::Resync(progress) => match next_stripe(&self.store, &self.log, progress.next) {
-                Ok(next) => match next.1 {
-                    Some(stripe) => self.take(next.0, progress, stripe),
+            State::Resync(progress) => {
+                let (shape, next) = next_stripe(&self.store, &self.log, progress.next)?;
+                match next {
+                    Some(stripe) => self.take(shape, progress, stripe),
                     None => Ok(None),
-                },
-                Err(e) => Err(e),
-            },
+                }
+            }
             State::Fallen | State::Down | State::Ready | State::Short(_) => Err(
                 ArrayRefusal::WrongState(self.state),
             ),

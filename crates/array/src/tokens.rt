@@ -1,88 +1,51 @@
 // Tickets and permits: each must be handed in. Only the array makes them, and only it can spend one.
 ghost use Rattle.std.specs.Prelude.{◌≡◌};
 
-use array_model::refusal::ArrayRefusal;
-use array_model::state::State;
+use std::marker::PhantomData;
+
+/// A ticket or permit of one kind. It can be dropped only once the array has spent it.
+pub struct Token<K> {
+    number: usize,
+    kind: PhantomData<K>,
+}
+
+/// The kind of a ticket to resynchronize.
+pub struct Resyncing;
+
+/// The kind of a permit to write and read.
+pub struct Writing;
+
+/// The kind of a permit to read without one member.
+pub struct ReadingShort;
 
 /// What an opening gives: it allows to resynchronize. A finish takes it, or a give-up.
-pub struct ResyncTicket {
-    number: usize,
-}
-
-impl Drop for ResyncTicket {
-    fn drop(self)
-        requires { self.number ≡ 0 }
-    {
-        let ResyncTicket { number: _ } = self;
-    }
-}
-
-impl ResyncTicket {
-    pub(crate) fn new() -> ResyncTicket
-        ensures { result.number ≡ 1 }
-    {
-        ResyncTicket { number: 1 }
-    }
-
-    pub(crate) fn spend(mut self) {
-        self.number = 0;
-    }
-}
+pub type ResyncTicket = Token<Resyncing>;
 
 /// What a finish gives: it allows to write and read. A close takes it, or a give-up.
-pub struct ReadyPermit {
-    number: usize,
-}
-
-impl Drop for ReadyPermit {
-    fn drop(self)
-        requires { self.number ≡ 0 }
-    {
-        let ReadyPermit { number: _ } = self;
-    }
-}
-
-impl ReadyPermit {
-    pub(crate) fn new() -> ReadyPermit
-        ensures { result.number ≡ 1 }
-    {
-        ReadyPermit { number: 1 }
-    }
-
-    pub(crate) fn spend(mut self) {
-        self.number = 0;
-    }
-}
+pub type ReadyPermit = Token<Writing>;
 
 /// What an opening without one member gives: it allows to read. A give-up takes it.
-pub struct ShortPermit {
-    number: usize,
-}
+pub type ShortPermit = Token<ReadingShort>;
 
-impl Drop for ShortPermit {
+impl<K> Drop for Token<K> {
     fn drop(self)
         requires { self.number ≡ 0 }
     {
-        let ShortPermit { number: _ } = self;
+        let Token { number: _, kind: _ } = self;
     }
 }
 
-impl ShortPermit {
-    pub(crate) fn new() -> ShortPermit
+impl<K> Token<K> {
+    pub(crate) fn new() -> Token<K>
         ensures { result.number ≡ 1 }
     {
-        ShortPermit { number: 1 }
+        Token {
+            number: 1,
+            kind: PhantomData,
+        }
     }
 
     pub(crate) fn spend(mut self) {
         self.number = 0;
     }
-}
-
-/// Why a finish was refused.
-pub enum FinishRefusal {
-    /// This state does not allow the call: the ticket comes back.
-    Returned(State, ResyncTicket),
-    /// Any other refusal: the ticket is taken.
-    Taken(ArrayRefusal),
 }

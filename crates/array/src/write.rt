@@ -12,7 +12,6 @@ use crate::tokens::ReadyPermit;
 use array_model::refusal::ArrayRefusal;
 use array_model::state::State;
 use cache::caches::Caches;
-use cache::slot::BLOCK_BYTES;
 use geometry::layout::Layout;
 use intent_log::IntentLog;
 use member_store::MemberStore;
@@ -22,12 +21,7 @@ fn put_block(caches: &mut Caches, block: usize, bytes: &[u8]) -> Result<(), Arra
     requires { length bytes.now ≡ 512 }
     ensures { Puts block bytes.now (contents caches.old) result (contents caches.new) }
 {
-    let mut copy = [0u8; BLOCK_BYTES];
-    copy.copy_from_slice(bytes);
-    match caches.put(block, &copy) {
-        Ok(()) => Ok(()),
-        Err(e) => Err(ArrayRefusal::NoSlot(e.block)),
-    }
+    Ok(caches.put(block, bytes.try_into().unwrap())?)
 }
 
 impl<S: MemberStore, G: IntentLog, L: Layout> Array<S, G, L> {
@@ -42,10 +36,10 @@ impl<S: MemberStore, G: IntentLog, L: Layout> Array<S, G, L> {
         ensures does { Sound S.MemberStore.meaning G.IntentLog.meaning G.IntentLog.sound self.old → Writes (geometry L.Layout.arrangement (means S.MemberStore.meaning G.IntentLog.meaning self.old)) block bytes.now (means S.MemberStore.meaning G.IntentLog.meaning self.old) result (means S.MemberStore.meaning G.IntentLog.meaning self.new) }
     {
         match self.state {
-            State::Ready => match check_block(&self.store, block, bytes.len()) {
-                Ok(_) => put_block(&mut self.caches, block, bytes),
-                Err(e) => Err(e),
-            },
+            State::Ready => {
+                check_block(&self.store, block, bytes.len())?;
+                put_block(&mut self.caches, block, bytes)
+            }
             State::Fallen | State::Down | State::Resync(_) | State::Short(_) => Err(
                 ArrayRefusal::WrongState(self.state),
             ),

@@ -13,8 +13,7 @@ use Rattle.array_model.specs.Work.{Action, devices, clear, Performs, Declines}
 use Rattle.array_model.specs.Calls.{Plain, Checked, NotAllowed, PowersOn, format_actions, Formats, begun, Opens, OpensShort, taken, Takes, StepsFrom, Steps, totals, finish_actions, FinishesFrom, Finishes, Writes, Fetches, read_calls, ReadsNewest, Reads, naming_actions, puts, ChangesCaches, MovesStripe, DestagesReady, Destages, Drains, begin, then_moved, then_changed, FlushesReady, Flushes, ClosesReady, Closes, ReadsWithout, ReadsShort, given_up, GivesUp}
 use Rattle.array_model.specs.Book as model
 use Rattle.array_model.specs.Runs.{Does}
-use Rattle.array_model.specs.declared.answer.Step.{Step}
-use Rattle.array_model.specs.declared.answer.Step.TheVariants.{Taken, NoneLeft}
+use Rattle.array_model.specs.declared.answer.TakenStripe.{TakenStripe}
 use Rattle.array_model.specs.declared.answer.Destage.{Destage}
 use Rattle.array_model.specs.declared.answer.Destage.TheVariants.{Moved, Changed}
 use Rattle.array_model.specs.declared.answer.ResyncCounts.{ResyncCounts}
@@ -75,12 +74,12 @@ module _ (g : Geometry) (s t : Meaning) (h : Idle s) where
       (λ i w e. checked s r t h (open_short_checks g x s) ((r ≡ Ok tt) × (t ≡ in_state (Short x) s)) (λ k. subst Idle (sym k.1) i) w)
       s.state refl h d
 
-  step_by : (p : Progress) (r : Result Step ArrayRefusal) (o : Option ℕ) → s.caches ≡ empty → options.MatchOption o ((r ≡ Ok NoneLeft) × (t ≡ s)) (λ k. Takes g p k s r t) → Idle t
+  step_by : (p : Progress) (r : Result (Option TakenStripe) ArrayRefusal) (o : Option ℕ) → s.caches ≡ empty → options.MatchOption o ((r ≡ Ok None) × (t ≡ s)) (λ k. Takes g p k s r t) → Idle t
   step_by p r None i w = same s t w.1 h
   step_by p r (Some k) i w =
-      performs (devices (resync_calls (stripe g k) s.members) ∷ []) (Taken k (not (parity_right (stripe g k) s.members))) (Resync (taken p k (parity_right (stripe g k) s.members))) s.caches s r t i w
+      performs (devices (resync_calls (stripe g k) s.members) ∷ []) (Some (record { stripe = k; mended = not (parity_right (stripe g k) s.members) })) (Resync (taken p k (parity_right (stripe g k) s.members))) s.caches s r t i w
 
-  steps : (r : Result Step ArrayRefusal) → Steps g s r t → Idle t
+  steps : (r : Result (Option TakenStripe) ArrayRefusal) → Steps g s r t → Idle t
   steps r d =
       in_resync s r t (In s) (Idle t) (StepsFrom g)
       (not_allowed s r t h)

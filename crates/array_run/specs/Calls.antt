@@ -1,5 +1,5 @@
 -- A call of a list: which call of the array it is, what tokens it takes and leaves, and what its answer tells.
-use Rattle.std.specs.Prelude.{◌≡◌, ℕ, ◌+◌, ◌<◌, Bool, true, false, cond, ◌&&◌, ◌⊎◌, List, [], ◌∷◌, replicate, is_ok, Ok, Err, vec_items, Result}
+use Rattle.std.specs.Prelude.{◌≡◌, ℕ, ◌+◌, ◌-◌, ◌<◌, Bool, true, false, cond, ◌&&◌, ◌⊎◌, List, [], ◌∷◌, replicate, is_ok, Ok, Err, vec_items, Result}
 use Rattle.std.specs.Result as results
 use Rattle.array_model.specs.Meaning.{Meaning, Arrange, geometry}
 use Rattle.array_model.specs.Calls.{Plain, GivesUp}
@@ -142,6 +142,12 @@ Made arrange c h s a h' t =
 -- The same, unless memory was wanting: then nothing was done.
 abbrev pub Tries : {E : Type 0} → Arrange → Call → TokenCounts → Meaning → Result Answer E → TokenCounts → Meaning → Type 0
 Tries arrange c h s r h' t = results.MatchResult r (λ a. Made arrange c h s a h' t) (λ _. (h' ≡ h) × (t ≡ s))
+
+-- From n tokens of a kind the last is handed in, where there is one: n' are left.
+abbrev pub GivesUpLast : ℕ → Meaning → Answer → ℕ → Meaning → Type 0
+GivesUpLast n s a n' t =
+    ((n ≡ 0) × (a ≡ answer.NoToken) × (n' ≡ n) × (t ≡ s))
+    ⊎ ((0 < n) × (a ≡ answer.GivenUp) × (n' ≡ n - 1) × GivesUp s t)
 
 -- So many give-ups, one after the other: where there is one, they do what one does.
 pub record AfterGiveUps (n : ℕ) (s t : Meaning) : Type 0 where

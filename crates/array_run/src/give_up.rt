@@ -1,6 +1,6 @@
 // Give-up of tickets and permits.
-ghost use Rattle.std.specs.Prelude.{vec_len};
-ghost use Rattle.array_run.specs.Calls.{Made, AfterGiveUps};
+ghost use Rattle.std.specs.Prelude.{◌≤◌, vec_len, vec_capacity};
+ghost use Rattle.array_run.specs.Calls.{Made, GivesUpLast, AfterGiveUps};
 ghost use Rattle.array_run.specs.declared.call.Call.TheVariants as call;
 ghost use Rattle.array.specs.Sound.{means, Sound};
 ghost use Rattle.array_run.specs.TokenCounts.{Grown, counts_of, total};
@@ -9,10 +9,28 @@ use crate::answer::Answer;
 use crate::call::TokenKind;
 use crate::tokens::Tokens;
 use array::array::Array;
-use array::tokens::{ReadyPermit, ResyncTicket, ShortPermit};
+use array::tokens::Token;
 use geometry::layout::Layout;
 use intent_log::IntentLog;
 use member_store::MemberStore;
+
+// Hands in the last of these tokens, where there is one.
+fn give_up_last<S: MemberStore, G: IntentLog, L: Layout, K>(
+    array: &mut Array<S, G, L>,
+    held: &mut Vec<Token<K>>,
+) -> Answer
+    ensures sound { Sound S.MemberStore.meaning G.IntentLog.meaning G.IntentLog.sound array.old → Sound S.MemberStore.meaning G.IntentLog.meaning G.IntentLog.sound array.new }
+    ensures given { GivesUpLast (vec_len held.old) (means S.MemberStore.meaning G.IntentLog.meaning array.old) result (vec_len held.new) (means S.MemberStore.meaning G.IntentLog.meaning array.new) }
+    ensures room { vec_capacity held.old ≤ vec_capacity held.new }
+{
+    match held.pop() {
+        Some(last) => {
+            array.give_up(last);
+            Answer::GivenUp
+        }
+        None => Answer::NoToken,
+    }
+}
 
 pub(super) fn give_up<S: MemberStore, G: IntentLog, L: Layout>(
     array: &mut Array<S, G, L>,
@@ -24,70 +42,24 @@ pub(super) fn give_up<S: MemberStore, G: IntentLog, L: Layout>(
     ensures grown { Grown 1 tokens.old tokens.new }
 {
     match kind {
-        TokenKind::Resync => match tokens.tickets.pop() {
-            Some(ticket) => {
-                array.give_up_resync(ticket);
-                Answer::GivenUp
-            }
-            None => Answer::NoToken,
-        },
-        TokenKind::Ready => match tokens.permits.pop() {
-            Some(permit) => {
-                array.give_up_ready(permit);
-                Answer::GivenUp
-            }
-            None => Answer::NoToken,
-        },
-        TokenKind::Short => match tokens.shorts.pop() {
-            Some(permit) => {
-                array.give_up_short(permit);
-                Answer::GivenUp
-            }
-            None => Answer::NoToken,
-        },
+        TokenKind::Resync => give_up_last(array, &mut tokens.tickets),
+        TokenKind::Ready => give_up_last(array, &mut tokens.permits),
+        TokenKind::Short => give_up_last(array, &mut tokens.shorts),
     }
 }
 
-// Hands in these tickets.
-fn give_up_tickets<S: MemberStore, G: IntentLog, L: Layout>(
+// Hands in these tokens.
+fn give_up_held<S: MemberStore, G: IntentLog, L: Layout, K>(
     array: &mut Array<S, G, L>,
-    mut tickets: Vec<ResyncTicket>,
+    mut held: Vec<Token<K>>,
 )
     ensures sound { Sound S.MemberStore.meaning G.IntentLog.meaning G.IntentLog.sound array.old → Sound S.MemberStore.meaning G.IntentLog.meaning G.IntentLog.sound array.new }
-    ensures given { AfterGiveUps (vec_len tickets) (means S.MemberStore.meaning G.IntentLog.meaning array.old) (means S.MemberStore.meaning G.IntentLog.meaning array.new) }
+    ensures given { AfterGiveUps (vec_len held) (means S.MemberStore.meaning G.IntentLog.meaning array.old) (means S.MemberStore.meaning G.IntentLog.meaning array.new) }
 {
-    while let Some(token) = tickets.pop() {
-        array.give_up_resync(token);
+    while let Some(token) = held.pop() {
+        array.give_up(token);
     }
-    tickets.destroy_empty();
-}
-
-// Hands in these permits.
-fn give_up_permits<S: MemberStore, G: IntentLog, L: Layout>(
-    array: &mut Array<S, G, L>,
-    mut permits: Vec<ReadyPermit>,
-)
-    ensures sound { Sound S.MemberStore.meaning G.IntentLog.meaning G.IntentLog.sound array.old → Sound S.MemberStore.meaning G.IntentLog.meaning G.IntentLog.sound array.new }
-    ensures given { AfterGiveUps (vec_len permits) (means S.MemberStore.meaning G.IntentLog.meaning array.old) (means S.MemberStore.meaning G.IntentLog.meaning array.new) }
-{
-    while let Some(token) = permits.pop() {
-        array.give_up_ready(token);
-    }
-    permits.destroy_empty();
-}
-
-// Hands in these permits.
-fn give_up_shorts<S: MemberStore, G: IntentLog, L: Layout>(
-    array: &mut Array<S, G, L>,
-    mut shorts: Vec<ShortPermit>,
-)
-    ensures sound { Sound S.MemberStore.meaning G.IntentLog.meaning G.IntentLog.sound array.old → Sound S.MemberStore.meaning G.IntentLog.meaning G.IntentLog.sound array.new }
-    ensures given { AfterGiveUps (vec_len shorts) (means S.MemberStore.meaning G.IntentLog.meaning array.old) (means S.MemberStore.meaning G.IntentLog.meaning array.new) }
-{
-    while let Some(token) = shorts.pop() {
-        array.give_up_short(token);
-    }
-    shorts.destroy_empty();
+    held.destroy_empty();
 }
 
 /// Hands in every ticket and permit: where there is one, the caches are emptied and the opening is left.
@@ -103,7 +75,7 @@ pub fn give_up_all<S: MemberStore, G: IntentLog, L: Layout>(
         permits,
         shorts,
     } = tokens;
-    give_up_tickets(array, tickets);
-    give_up_permits(array, permits);
-    give_up_shorts(array, shorts);
+    give_up_held(array, tickets);
+    give_up_held(array, permits);
+    give_up_held(array, shorts);
 }

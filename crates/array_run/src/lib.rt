@@ -7,6 +7,7 @@ pub mod answer;
 mod buffer;
 pub mod call;
 pub mod give_up;
+mod last;
 mod open;
 mod ready;
 mod resync;
@@ -16,8 +17,6 @@ pub mod tokens;
 
 /// Proved: whatever call is made, an array that is down, resynchronizing or short has empty caches, so that nothing stale
 /// appears after an opening.
-pub fn caches_stay_empty() -> u8
+pub fn caches_stay_empty()
     ensures { CachesStayEmpty }
-{
-    0
-}
+{}

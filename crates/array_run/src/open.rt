@@ -22,9 +22,7 @@ pub(super) fn open<S: MemberStore, G: IntentLog, L: Layout>(
     ensures grown { Grown 1 tokens.old tokens.new }
     ensures enough { Room 1 tokens.old → is_ok result ≡ true }
 {
-    if let Err(e) = tokens.tickets.reserve(1) {
-        return Err(e);
-    }
+    tokens.tickets.reserve(1)?;
     match array.open() {
         Ok(ticket) => {
             tokens.tickets.push_reserved(ticket);
@@ -44,9 +42,7 @@ pub(super) fn open_short<S: MemberStore, G: IntentLog, L: Layout>(
     ensures grown { Grown 1 tokens.old tokens.new }
     ensures enough { Room 1 tokens.old → is_ok result ≡ true }
 {
-    if let Err(e) = tokens.shorts.reserve(1) {
-        return Err(e);
-    }
+    tokens.shorts.reserve(1)?;
     match array.open_short(absent) {
         Ok(permit) => {
             tokens.shorts.push_reserved(permit);

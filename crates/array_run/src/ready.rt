@@ -5,7 +5,8 @@ ghost use Rattle.array.specs.Sound.{means, Sound};
 ghost use Rattle.array_run.specs.TokenCounts.{Grown, counts_of};
 
 use crate::answer::Answer;
-use crate::buffer::zero_buffer;
+use crate::buffer::{read_told, zero_buffer};
+use crate::last::on_last;
 use crate::tokens::Tokens;
 use array::array::Array;
 use array::refusal::CloseRefusal;
@@ -24,10 +25,9 @@ pub(super) fn write<S: MemberStore, G: IntentLog, L: Layout>(
     ensures sound { Sound S.MemberStore.meaning G.IntentLog.meaning G.IntentLog.sound array.old → Sound S.MemberStore.meaning G.IntentLog.meaning G.IntentLog.sound array.new }
     ensures made { Sound S.MemberStore.meaning G.IntentLog.meaning G.IntentLog.sound array.old → Made L.Layout.arrangement (call.Write block bytes.entry) (counts_of tokens.now) (means S.MemberStore.meaning G.IntentLog.meaning array.old) result (counts_of tokens.now) (means S.MemberStore.meaning G.IntentLog.meaning array.new) }
 {
-    match tokens.permits.last() {
-        Some(permit) => Answer::Plain(array.write(permit, block, bytes)),
-        None => Answer::NoToken,
-    }
+    on_last(array, &tokens.permits, |array, permit| {
+        Answer::Plain(array.write(permit, block, bytes))
+    })
 }
 
 pub(super) fn read<S: MemberStore, G: IntentLog, L: Layout>(
@@ -40,15 +40,13 @@ pub(super) fn read<S: MemberStore, G: IntentLog, L: Layout>(
     ensures sound { Sound S.MemberStore.meaning G.IntentLog.meaning G.IntentLog.sound array.old → Sound S.MemberStore.meaning G.IntentLog.meaning G.IntentLog.sound array.new }
     ensures made { Sound S.MemberStore.meaning G.IntentLog.meaning G.IntentLog.sound array.old → Tries L.Layout.arrangement (call.Read block length) (counts_of tokens.now) (means S.MemberStore.meaning G.IntentLog.meaning array.old) result (counts_of tokens.now) (means S.MemberStore.meaning G.IntentLog.meaning array.new) }
 {
-    let mut buffer = match zero_buffer(heap, length) {
-        Ok(buffer) => buffer,
-        Err(e) => return Err(e),
-    };
+    let mut buffer = zero_buffer(heap, length)?;
+    // Kept: handed to `on_last`, the call would carry the buffer in and out, and be no plainer.
     match tokens.permits.last() {
-        Some(permit) => match array.read(permit, block, buffer.as_mut_slice()) {
-            Ok(()) => Ok(Answer::Read(Ok(buffer))),
-            Err(e) => Ok(Answer::Read(Err(e))),
-        },
+        Some(permit) => {
+            let outcome = array.read(permit, block, buffer.as_mut_slice());
+            Ok(read_told(outcome, buffer))
+        }
         None => Ok(Answer::NoToken),
     }
 }
@@ -60,10 +58,9 @@ pub(super) fn destage<S: MemberStore, G: IntentLog, L: Layout>(
     ensures sound { Sound S.MemberStore.meaning G.IntentLog.meaning G.IntentLog.sound array.old → Sound S.MemberStore.meaning G.IntentLog.meaning G.IntentLog.sound array.new }
     ensures made { Sound S.MemberStore.meaning G.IntentLog.meaning G.IntentLog.sound array.old → Made L.Layout.arrangement call.Destage (counts_of tokens.now) (means S.MemberStore.meaning G.IntentLog.meaning array.old) result (counts_of tokens.now) (means S.MemberStore.meaning G.IntentLog.meaning array.new) }
 {
-    match tokens.permits.last() {
-        Some(permit) => Answer::Destage(array.destage(permit)),
-        None => Answer::NoToken,
-    }
+    on_last(array, &tokens.permits, |array, permit| {
+        Answer::Destage(array.destage(permit))
+    })
 }
 
 pub(super) fn flush<S: MemberStore, G: IntentLog, L: Layout>(
@@ -73,10 +70,9 @@ pub(super) fn flush<S: MemberStore, G: IntentLog, L: Layout>(
     ensures sound { Sound S.MemberStore.meaning G.IntentLog.meaning G.IntentLog.sound array.old → Sound S.MemberStore.meaning G.IntentLog.meaning G.IntentLog.sound array.new }
     ensures made { Sound S.MemberStore.meaning G.IntentLog.meaning G.IntentLog.sound array.old → Made L.Layout.arrangement call.Flush (counts_of tokens.now) (means S.MemberStore.meaning G.IntentLog.meaning array.old) result (counts_of tokens.now) (means S.MemberStore.meaning G.IntentLog.meaning array.new) }
 {
-    match tokens.permits.last() {
-        Some(permit) => Answer::Flush(array.flush(permit)),
-        None => Answer::NoToken,
-    }
+    on_last(array, &tokens.permits, |array, permit| {
+        Answer::Flush(array.flush(permit))
+    })
 }
 
 pub(super) fn close<S: MemberStore, G: IntentLog, L: Layout>(
@@ -90,13 +86,11 @@ pub(super) fn close<S: MemberStore, G: IntentLog, L: Layout>(
     match tokens.permits.pop() {
         Some(permit) => match array.close(permit) {
             Ok(()) => Answer::Plain(Ok(())),
-            Err(refused) => match refused {
-                CloseRefusal::Returned(state, permit) => {
-                    tokens.permits.push_reserved(permit);
-                    Answer::Plain(Err(ArrayRefusal::WrongState(state)))
-                }
-                CloseRefusal::Taken(e) => Answer::Plain(Err(e)),
-            },
+            Err(CloseRefusal::Returned(state, permit)) => {
+                tokens.permits.push_reserved(permit);
+                Answer::Plain(Err(ArrayRefusal::WrongState(state)))
+            }
+            Err(CloseRefusal::Taken(e)) => Answer::Plain(Err(e)),
         },
         None => Answer::NoToken,
     }

@@ -6,9 +6,10 @@ ghost use Rattle.array.specs.Sound.{means, Sound};
 ghost use Rattle.array_run.specs.TokenCounts.{Grown, Room, counts_of};
 
 use crate::answer::Answer;
+use crate::last::on_last;
 use crate::tokens::Tokens;
 use array::array::Array;
-use array::tokens::FinishRefusal;
+use array::refusal::FinishRefusal;
 use array_model::refusal::ArrayRefusal;
 use geometry::layout::Layout;
 use intent_log::IntentLog;
@@ -22,10 +23,9 @@ pub(super) fn step<S: MemberStore, G: IntentLog, L: Layout>(
     ensures sound { Sound S.MemberStore.meaning G.IntentLog.meaning G.IntentLog.sound array.old → Sound S.MemberStore.meaning G.IntentLog.meaning G.IntentLog.sound array.new }
     ensures made { Sound S.MemberStore.meaning G.IntentLog.meaning G.IntentLog.sound array.old → Made L.Layout.arrangement call.Step (counts_of tokens.now) (means S.MemberStore.meaning G.IntentLog.meaning array.old) result (counts_of tokens.now) (means S.MemberStore.meaning G.IntentLog.meaning array.new) }
 {
-    match tokens.tickets.last() {
-        Some(ticket) => Answer::Step(array.step(ticket)),
-        None => Answer::NoToken,
-    }
+    on_last(array, &tokens.tickets, |array, ticket| {
+        Answer::Step(array.step(ticket))
+    })
 }
 
 pub(super) fn finish<S: MemberStore, G: IntentLog, L: Layout>(
@@ -37,22 +37,18 @@ pub(super) fn finish<S: MemberStore, G: IntentLog, L: Layout>(
     ensures grown { Grown 1 tokens.old tokens.new }
     ensures enough { Room 1 tokens.old → is_ok result ≡ true }
 {
-    if let Err(e) = tokens.permits.reserve(1) {
-        return Err(e);
-    }
+    tokens.permits.reserve(1)?;
     match tokens.tickets.pop() {
         Some(ticket) => match array.finish(ticket) {
             Ok((permit, counts)) => {
                 tokens.permits.push_reserved(permit);
                 Ok(Answer::Finish(Ok(counts)))
             }
-            Err(refused) => match refused {
-                FinishRefusal::Returned(state, ticket) => {
-                    tokens.tickets.push_reserved(ticket);
-                    Ok(Answer::Finish(Err(ArrayRefusal::WrongState(state))))
-                }
-                FinishRefusal::Taken(e) => Ok(Answer::Finish(Err(e))),
-            },
+            Err(FinishRefusal::Returned(state, ticket)) => {
+                tokens.tickets.push_reserved(ticket);
+                Ok(Answer::Finish(Err(ArrayRefusal::WrongState(state))))
+            }
+            Err(FinishRefusal::Taken(e)) => Ok(Answer::Finish(Err(e))),
         },
         None => Ok(Answer::NoToken),
     }

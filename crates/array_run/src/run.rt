@@ -64,13 +64,9 @@ pub fn run<S: MemberStore, G: IntentLog, L: Layout>(
     ensures promise { WellFormed S.MemberStore.meaning G.IntentLog.meaning G.IntentLog.sound array.old → KeepsPromise L.Layout.arrangement calls.now answers.old.items answers.new.items (counts_of tokens.old) (means S.MemberStore.meaning G.IntentLog.meaning array.old) result (counts_of tokens.new) (means S.MemberStore.meaning G.IntentLog.meaning array.new) }
 {
     for call in calls {
-        if let Err(e) = answers.reserve(1) {
-            return Err(e);
-        }
-        match make(heap, array, tokens, *call) {
-            Ok(answer) => answers.push_reserved(answer),
-            Err(e) => return Err(e),
-        }
+        answers.reserve(1)?;
+        let answer = make(heap, array, tokens, *call)?;
+        answers.push_reserved(answer);
     }
     Ok(())
 }

@@ -5,7 +5,7 @@ ghost use Rattle.array.specs.Sound.{means, Sound};
 ghost use Rattle.array_run.specs.TokenCounts.{counts_of};
 
 use crate::answer::Answer;
-use crate::buffer::zero_buffer;
+use crate::buffer::{read_told, zero_buffer};
 use crate::tokens::Tokens;
 use array::array::Array;
 use geometry::layout::Layout;
@@ -23,15 +23,13 @@ pub(super) fn read_short<S: MemberStore, G: IntentLog, L: Layout>(
     ensures sound { Sound S.MemberStore.meaning G.IntentLog.meaning G.IntentLog.sound array.old → Sound S.MemberStore.meaning G.IntentLog.meaning G.IntentLog.sound array.new }
     ensures made { Sound S.MemberStore.meaning G.IntentLog.meaning G.IntentLog.sound array.old → Tries L.Layout.arrangement (call.ReadShort block length) (counts_of tokens.now) (means S.MemberStore.meaning G.IntentLog.meaning array.old) result (counts_of tokens.now) (means S.MemberStore.meaning G.IntentLog.meaning array.new) }
 {
-    let mut buffer = match zero_buffer(heap, length) {
-        Ok(buffer) => buffer,
-        Err(e) => return Err(e),
-    };
+    let mut buffer = zero_buffer(heap, length)?;
+    // Kept: handed to `on_last`, the call would carry the buffer in and out, and be no plainer.
     match tokens.shorts.last() {
-        Some(permit) => match array.read_short(permit, block, buffer.as_mut_slice()) {
-            Ok(()) => Ok(Answer::Read(Ok(buffer))),
-            Err(e) => Ok(Answer::Read(Err(e))),
-        },
+        Some(permit) => {
+            let outcome = array.read_short(permit, block, buffer.as_mut_slice());
+            Ok(read_told(outcome, buffer))
+        }
         None => Ok(Answer::NoToken),
     }
 }

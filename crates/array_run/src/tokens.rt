@@ -29,12 +29,8 @@ impl Tokens {
         ensures same { counts_of self.new ≡ counts_of self.old }
         ensures room { OnOk result (Room more self.new) }
     {
-        if let Err(e) = self.tickets.reserve(more) {
-            return Err(e);
-        }
-        if let Err(e) = self.permits.reserve(more) {
-            return Err(e);
-        }
+        self.tickets.reserve(more)?;
+        self.permits.reserve(more)?;
         self.shorts.reserve(more)
     }
 }

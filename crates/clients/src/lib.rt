@@ -4,8 +4,8 @@
 ghost use Rattle.array.specs.Sound.{Sound};
 
 use array::array::Array;
-use array::refusal::CloseRefusal;
-use array::tokens::{FinishRefusal, ReadyPermit, ResyncTicket};
+use array::refusal::TokenRefusal;
+use array::tokens::{ReadyPermit, ResyncTicket};
 use array_model::refusal::ArrayRefusal;
 use geometry::layout::Layout;
 use intent_log::IntentLog;
@@ -19,16 +19,27 @@ fn resynchronize<S: MemberStore, G: IntentLog, L: Layout>(
     ensures { Sound S.MemberStore.meaning G.IntentLog.meaning G.IntentLog.sound array.old → Sound S.MemberStore.meaning G.IntentLog.meaning G.IntentLog.sound array.new }
 {
     for _ in 0..16_777_217 {
-        match array.step(ticket) {
-            Ok(taken) => {
-                if taken.is_none() {
-                    return Ok(());
-                }
-            }
-            Err(e) => return Err(e),
+        if array.step(ticket)?.is_none() {
+            return Ok(());
         }
     }
     Ok(())
+}
+
+// The refusal of a call that takes a token. A token that came back is given up.
+fn handed_in<S: MemberStore, G: IntentLog, L: Layout, K>(
+    array: &mut Array<S, G, L>,
+    refused: TokenRefusal<K>,
+) -> ArrayRefusal
+    ensures { Sound S.MemberStore.meaning G.IntentLog.meaning G.IntentLog.sound array.old → Sound S.MemberStore.meaning G.IntentLog.meaning G.IntentLog.sound array.new }
+{
+    match refused {
+        TokenRefusal::Returned(state, token) => {
+            array.give_up(token);
+            ArrayRefusal::WrongState(state)
+        }
+        TokenRefusal::Taken(e) => e,
+    }
 }
 
 /// Opens an array that is down and writes a block: one steps to the end and finishes before one writes.
@@ -39,31 +50,20 @@ pub fn open_and_write<S: MemberStore, G: IntentLog, L: Layout>(
 ) -> Result<ReadyPermit, ArrayRefusal>
     ensures { Sound S.MemberStore.meaning G.IntentLog.meaning G.IntentLog.sound array.old → Sound S.MemberStore.meaning G.IntentLog.meaning G.IntentLog.sound array.new }
 {
-    let ticket = match array.open() {
-        Ok(ticket) => ticket,
-        Err(e) => return Err(e),
-    };
+    let ticket = array.open()?;
     if let Err(e) = resynchronize(array, &ticket) {
-        array.give_up_resync(ticket);
+        array.give_up(ticket);
         return Err(e);
     }
     let ready = match array.finish(ticket) {
         Ok((permit, _)) => permit,
-        Err(refused) => match refused {
-            FinishRefusal::Returned(state, ticket) => {
-                array.give_up_resync(ticket);
-                return Err(ArrayRefusal::WrongState(state));
-            }
-            FinishRefusal::Taken(e) => return Err(e),
-        },
+        Err(refused) => return Err(handed_in(array, refused)),
     };
-    match array.write(&ready, block, bytes) {
-        Ok(()) => Ok(ready),
-        Err(e) => {
-            array.give_up_ready(ready);
-            Err(e)
-        }
+    if let Err(e) = array.write(&ready, block, bytes) {
+        array.give_up(ready);
+        return Err(e);
     }
+    Ok(ready)
 }
 
 /// Reads a block and closes: what is to be read is read before the close takes the permit.
@@ -76,15 +76,8 @@ pub fn read_and_close<S: MemberStore, G: IntentLog, L: Layout>(
     ensures { Sound S.MemberStore.meaning G.IntentLog.meaning G.IntentLog.sound array.old → Sound S.MemberStore.meaning G.IntentLog.meaning G.IntentLog.sound array.new }
 {
     let outcome = array.read(&permit, block, into);
-    match array.close(permit) {
-        Ok(()) => {}
-        Err(refused) => match refused {
-            CloseRefusal::Returned(state, permit) => {
-                array.give_up_ready(permit);
-                return Err(ArrayRefusal::WrongState(state));
-            }
-            CloseRefusal::Taken(e) => return Err(e),
-        },
+    if let Err(refused) = array.close(permit) {
+        return Err(handed_in(array, refused));
     }
     outcome
 }

@@ -10,5 +10,5 @@ returns-in-Some g c =
     let l = g.G.IntentLog.meaning c.args.self.now.log in
     record {
       sound = λ h z. h;
-      does = λ h z. stripe_left g.L.Layout.arrangement q d m l c.args.progress c.in-Ok.next.1 c.in-Some.stripe c.in-Some.is (c.in-Ok.ensures.finds h z).2;
+      does = λ h z. stripe_left g.L.Layout.arrangement q d m l c.args.progress c.in_ok-left.left c.in-Some.stripe c.in-Some.is (c.in_ok-left.ensures.finds h z).2;
     }

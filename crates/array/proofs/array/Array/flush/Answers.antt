@@ -1,57 +1,25 @@
-use Rattle.std.proofs.Common.{Ok, Err}
 use Rattle.cache.specs.Meaning.{contents}
 use Rattle.array_model.specs.declared.state.State.TheVariants.{Ready}
-use Rattle.array_work.specs.Outcomes.{state_told}
-use Rattle.array.proofs.Blocks.{ready_sound}
-use Rattle.array.proofs.Flushing.{flushes, flushed_sound}
+use Rattle.array.proofs.Kept.{sound_as}
+use Rattle.array.proofs.Flushing.{flushed_sound}
 use Rattle.array.proofs.array.Array.flush.Goals as goal
 
-pub returns-in-Ok-flush_all : goal.returns-in-Ok-flush_all
-returns-in-Ok-flush_all g c =
+pub returns-in_ok-shape-in-Ready-clause-sound : goal.returns-in_ok-shape-in-Ready-clause-sound
+returns-in_ok-shape-in-Ready-clause-sound g c =
     let q = c.args.self.now.state in
     let d = contents c.args.self.now.caches in
-    let d' = contents c.flush_all.new.caches in
     let m = g.S.MemberStore.meaning c.args.self.now.store in
-    let m' = g.S.MemberStore.meaning c.flush_all.new.store in
     let l = g.G.IntentLog.meaning c.args.self.now.log in
-    let l' = g.G.IntentLog.meaning c.flush_all.new.log in
+    let w = c.flush_all-outcome in
+    let d' = contents w.new.caches in
+    let m' = g.S.MemberStore.meaning w.new.store in
+    let l' = g.G.IntentLog.meaning w.new.log in
     let a = g.L.Layout.arrangement in
     let z = g.G.IntentLog.sound c.args.self.now.log in
-    let z' = g.G.IntentLog.sound c.flush_all.new.log in
-    let f = c.in-Ok.ensures in
+    let z' = g.G.IntentLog.sound w.new.log in
+    let shape = c.in_ok-shape-in-Ready.shape in
+    let f = c.in_ok-shape-in-Ready.ensures in
     let e = c.in-Ready.is in
-    let r = Ok c.in-Ok-flush_all.counts in
-    record {
-      sound =
-          λ h. let o = ready_sound q z m l e h in
-          flushed_sound a c.in-Ok.shape q d m l e f.1 f.2 d' m' l' r z z' (c.in-Ok-flush_all.ensures.sound o.0.0) q Ready e o (c.in-Ok-flush_all.ensures.does o.0.0 o.0.1);
-      does =
-          λ h. let o = ready_sound q z m l e h in
-          flushes a c.in-Ok.shape q d m l e f.1 f.2 d' m' l' r q Ready e (c.in-Ok-flush_all.ensures.does o.0.0 o.0.1);
-    }
-
-pub returns-in-Err-flush_all : goal.returns-in-Err-flush_all
-returns-in-Err-flush_all g c =
-    let q = c.args.self.now.state in
-    let d = contents c.args.self.now.caches in
-    let d' = contents c.flush_all.new.caches in
-    let m = g.S.MemberStore.meaning c.args.self.now.store in
-    let m' = g.S.MemberStore.meaning c.flush_all.new.store in
-    let l = g.G.IntentLog.meaning c.args.self.now.log in
-    let l' = g.G.IntentLog.meaning c.flush_all.new.log in
-    let a = g.L.Layout.arrangement in
-    let z = g.G.IntentLog.sound c.args.self.now.log in
-    let z' = g.G.IntentLog.sound c.flush_all.new.log in
-    let f = c.in-Ok.ensures in
-    let e = c.in-Ready.is in
-    let x = c.state_refused-self.result in
-    let y = state_told Ready c.in-Err-flush_all.cut in
-    let r = Err c.in-Err-flush_all.cut in
-    record {
-      sound =
-          λ h. let o = ready_sound q z m l e h in
-          flushed_sound a c.in-Ok.shape q d m l e f.1 f.2 d' m' l' r z z' (c.in-Err-flush_all.ensures.sound o.0.0) x y c.state_refused-self.ensures o (c.in-Err-flush_all.ensures.does o.0.0 o.0.1);
-      does =
-          λ h. let o = ready_sound q z m l e h in
-          flushes a c.in-Ok.shape q d m l e f.1 f.2 d' m' l' r x y c.state_refused-self.ensures (c.in-Err-flush_all.ensures.does o.0.0 o.0.1);
-    }
+    λ h. let o = sound_as q Ready z m l e h in
+    rw (c.or_fall.ensures.leaves, c.or_fall.ensures.same)
+    (flushed_sound a shape q d m l e f.1 f.2 d' m' l' w.result z z' (w.ensures.sound o.0.0) o (w.ensures.does o.0.0 o.0.1))

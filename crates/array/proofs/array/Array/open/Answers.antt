@@ -1,36 +1,29 @@
-use Rattle.std.proofs.Common.{Ok, sym, subst}
+use Rattle.std.proofs.Common.{◌≡◌, Err, rules}
 use Rattle.cache.specs.Meaning.{contents}
-use Rattle.array_model.specs.Meaning.{geometry_on, array}
-use Rattle.array_model.specs.Calls.{Opens}
-use Rattle.array_model.specs.declared.state.State.TheVariants.{Resync}
-use Rattle.array.specs.Sound.{SoundIn}
-use Rattle.array.proofs.Opening.{down_log, begun_sound, opens, opens_no}
+use Rattle.array_model.specs.Meaning.{geometry_on}
+use Rattle.array_model.specs.declared.state.State.TheVariants.{Down}
+use Rattle.array.proofs.Kept.{sound_as}
+use Rattle.array.proofs.Opening.{opens, opens_no}
 use Rattle.array.proofs.array.Array.open.Goals as goal
 
-pub returns-in-Ok : goal.returns-in-Ok
-returns-in-Ok g c =
+pub returns-in_ok-check_open-in-Down-clause-does : goal.returns-in_ok-check_open-in-Down-clause-does
+returns-in_ok-check_open-in-Down-clause-does g c =
     let q = c.args.self.now.state in
     let d = contents c.args.self.now.caches in
     let m = g.S.MemberStore.meaning c.args.self.now.store in
     let l = g.G.IntentLog.meaning c.args.self.now.log in
     let a = g.L.Layout.arrangement in
     let z = g.G.IntentLog.sound c.args.self.now.log in
-    let e = sym c.nothing_taken.ensures in
-    record {
-      sound = λ h. subst (λ x. SoundIn (Resync x) z m l) e (begun_sound q z m l c.in-Down.is c.in-Ok.ensures.sized h);
-      does = λ h. subst (λ x. Opens (geometry_on a m) (array q d m l) (Ok tt) (array (Resync x) d m l)) e
-          (opens (geometry_on a m) q d m l c.in-Down.is (c.in-Ok.ensures.checks a q d (down_log q z m l c.in-Down.is h)));
-    }
+    λ h. opens (geometry_on a m) q d m l c.in-Down.is (c.in_ok-check_open-in-Down.ensures.checks a q d (sound_as q Down z m l c.in-Down.is h))
 
-pub returns-in-Err : goal.returns-in-Err
-returns-in-Err g c =
+pub returns-in_err-check_open-in-Down-clause-does : goal.returns-in_err-check_open-in-Down-clause-does
+returns-in_err-check_open-in-Down-clause-does g c =
     let q = c.args.self.now.state in
     let d = contents c.args.self.now.caches in
     let m = g.S.MemberStore.meaning c.args.self.now.store in
     let l = g.G.IntentLog.meaning c.args.self.now.log in
     let a = g.L.Layout.arrangement in
     let z = g.G.IntentLog.sound c.args.self.now.log in
-    record {
-      sound = λ h. h;
-      does = λ h. opens_no (geometry_on a m) q d m l c.in-Err.e c.in-Down.is (c.in-Err.ensures.checks a q d (down_log q z m l c.in-Down.is h));
-    }
+    let no = c.in_err-check_open-in-Down in
+    let e : c.from_residual.result ≡ Err no.field-0.0 = search rules in
+    λ h. rw e (opens_no (geometry_on a m) q d m l no.field-0.0 c.in-Down.is (no.ensures.checks a q d (sound_as q Down z m l c.in-Down.is h)))

@@ -1,57 +1,39 @@
-use Rattle.std.proofs.Common.{Ok, Err, refl}
+use Rattle.std.proofs.Common.{◌≡◌, Err, refl, rules}
 use Rattle.cache.specs.Meaning.{contents}
 use Rattle.array_model.specs.Meaning.{array, geometry_on}
-use Rattle.array_model.specs.declared.state.State.TheVariants.{Fallen}
-use Rattle.array_work.specs.Outcomes.{sized, state_told}
-use Rattle.array.proofs.Kept.{short_still}
-use Rattle.array.proofs.ShortReading.{short_sized, reads_short_no, without_keeps, without_falls, reads_short_by, refused_keeps}
+use Rattle.array_work.specs.Outcomes.{sized, state_after}
+use Rattle.array_model.specs.declared.state.State.TheVariants.{Short}
+use Rattle.array.proofs.Kept.{sound_as}
+use Rattle.array.proofs.ShortReading.{reads_short_no, without_sound, refused_keeps}
 use Rattle.array.proofs.array.Array.read_short.Goals as goal
 
-pub returns-in-Ok-read_without : goal.returns-in-Ok-read_without
-returns-in-Ok-read_without g c =
+pub returns-in_ok-shape-in-Short-clause-sound : goal.returns-in_ok-shape-in-Short-clause-sound
+returns-in_ok-shape-in-Short-clause-sound g c =
     let q = c.args.self.now.state in
     let d = contents c.args.self.now.caches in
     let m = g.S.MemberStore.meaning c.args.self.now.store in
-    let n = g.S.MemberStore.meaning c.read_without.new.store in
     let l = g.G.IntentLog.meaning c.args.self.now.log in
+    let o = c.read_without-outcome in
+    let n = g.S.MemberStore.meaning o.new.store in
     let a = g.L.Layout.arrangement in
     let z = g.G.IntentLog.sound c.args.self.now.log in
-    let i = c.in-Short.absent in
-    let k = c.args.block in
-    let old = c.args.into.now in
-    let new = c.read_without.new.into in
-    let f = c.in-Ok.ensures in
-    let w = c.in-Ok-read_without.ensures q d l in
-    record {
-      sound = λ h. short_still q i z m n l c.in-Short.is (without_keeps (sized a c.in-Ok.shape) q d m l i k old new n w) h;
-      does = λ h. reads_short_by a c.in-Ok.shape q d m l i k old new f.0 f.1 f.2 f.3 (Ok tt) (array q d n l) c.in-Short.is (f.4 (short_sized q i z m l c.in-Short.is h).0) w;
-      kept = tt;
-    }
+    λ h. rw (c.or_fall.ensures.leaves, c.or_fall.ensures.same)
+    (without_sound (sized a c.in_ok-shape-in-Short.shape) q d m l c.in-Short.absent c.args.block c.args.into.now o.new.into n z o.result c.in-Short.is (o.ensures q d l) h)
 
-pub returns-in-Err-read_without : goal.returns-in-Err-read_without
-returns-in-Err-read_without g c =
+pub returns-in_ok-shape-in-Short-clause-kept : goal.returns-in_ok-shape-in-Short-clause-kept
+returns-in_ok-shape-in-Short-clause-kept g c =
     let q = c.args.self.now.state in
     let d = contents c.args.self.now.caches in
     let m = g.S.MemberStore.meaning c.args.self.now.store in
-    let n = g.S.MemberStore.meaning c.read_without.new.store in
     let l = g.G.IntentLog.meaning c.args.self.now.log in
+    let o = c.read_without-outcome in
+    let n = g.S.MemberStore.meaning o.new.store in
     let a = g.L.Layout.arrangement in
-    let z = g.G.IntentLog.sound c.args.self.now.log in
-    let i = c.in-Short.absent in
-    let k = c.args.block in
-    let old = c.args.into.now in
-    let new = c.read_without.new.into in
-    let f = c.in-Ok.ensures in
-    let e = c.in-Err-read_without.cut in
-    let w = without_falls (sized a c.in-Ok.shape) q d m l i k old new n e (state_told q e) (c.in-Err-read_without.ensures q d l) in
-    record {
-      sound = λ h. tt;
-      does = λ h. reads_short_by a c.in-Ok.shape q d m l i k old new f.0 f.1 f.2 f.3 (Err e) (array Fallen d n l) c.in-Short.is (f.4 (short_sized q i z m l c.in-Short.is h).0) w;
-      kept = refused_keeps (sized a c.in-Ok.shape) i k old new (array q d m l) (array Fallen d n l) e w;
-    }
+    rw c.or_fall.ensures.same
+    (refused_keeps (sized a c.in_ok-shape-in-Short.shape) c.in-Short.absent c.args.block c.args.into.now o.new.into (array q d m l) (array (state_after q o.result) d n l) o.result (o.ensures q d l))
 
-pub returns-in-Err : goal.returns-in-Err
-returns-in-Err g c =
+pub returns-in_err-shape-in-Short-clause-does : goal.returns-in_err-shape-in-Short-clause-does
+returns-in_err-shape-in-Short-clause-does g c =
     let q = c.args.self.now.state in
     let d = contents c.args.self.now.caches in
     let m = g.S.MemberStore.meaning c.args.self.now.store in
@@ -60,10 +42,7 @@ returns-in-Err g c =
     let z = g.G.IntentLog.sound c.args.self.now.log in
     let i = c.in-Short.absent in
     let old = c.args.into.now in
-    record {
-      sound = λ h. h;
-      does =
-          λ h. let o = short_sized q i z m l c.in-Short.is h in
-          reads_short_no (geometry_on a m) q d m l i c.args.block old old c.in-Err.refusal c.in-Short.is refl (c.in-Err.ensures o.0 o.1 q d);
-      kept = refl;
-    }
+    let no = c.in_err-shape-in-Short in
+    let e : c.from_residual.result ≡ Err no.field-0.0 = search rules in
+    λ h. let o = sound_as q (Short i) z m l c.in-Short.is h in
+    rw e (reads_short_no (geometry_on a m) q d m l i c.args.block old old no.field-0.0 c.in-Short.is refl (no.ensures o.0 o.1 q d))
