@@ -4,10 +4,11 @@
 mod lines;
 
 use anyhow::{Context, anyhow};
+use block_address::Address;
 use flag_log::flag::FlagLog;
 use intent_log::IntentLog;
 use intent_log::refusal::LogRefusal;
-use lines::{FlagLine, RingLine, SlotLine};
+use lines::SlotLine;
 use member_store::{BLOCK_BYTES, MemberStore};
 use memory_store::memory::MemoryStore;
 use program_parts::ending::end;
@@ -51,15 +52,11 @@ fn asked(rt: &HostRuntime) -> anyhow::Result<Request> {
 fn tell_slot(
     rt: &HostRuntime,
     store: &mut MemoryStore,
-    member: usize,
-    block: usize,
     slot: usize,
+    at: Address,
 ) -> anyhow::Result<()> {
     let mut bytes = [0u8; BLOCK_BYTES];
-    store
-        .read(member, block, &mut bytes)
-        .ok()
-        .context("a slot cannot be read")?;
+    store.read(at, &mut bytes).context("a slot cannot be read")?;
     let found = Record::decode(&bytes);
     rt.println(SlotLine { slot, found })?;
     Ok(())
@@ -71,7 +68,11 @@ fn tell_slots(rt: &HostRuntime, store: &mut MemoryStore) -> anyhow::Result<()> {
         return Ok(());
     }
     for slot in 0..slots_of(members, store.blocks()) {
-        tell_slot(rt, store, slot % members, slot / members, slot)?;
+        let at = Address {
+            member: slot % members,
+            block: slot / members,
+        };
+        tell_slot(rt, store, slot, at)?;
     }
     Ok(())
 }
@@ -89,7 +90,10 @@ fn tell_ring(rt: &HostRuntime, store: MemoryStore) -> anyhow::Result<()> {
     let found = ring.standing_record().ok().context("the ring is off")?;
     let mut store = ring.into_store();
     tell_slots(rt, &mut store)?;
-    rt.println(RingLine { found })?;
+    match found {
+        Some(record) => println!(rt; "stands {record}")?,
+        None => rt.println("no record")?,
+    }
     Ok(())
 }
 
@@ -97,7 +101,10 @@ fn tell_flag(rt: &HostRuntime, store: MemoryStore) -> anyhow::Result<()> {
     let mut flag = FlagLog::new(store);
     flag.power_on().ok().context("the flag cannot be read")?;
     let found = flag.standing_record().ok().context("the flag is off")?;
-    rt.println(FlagLine { found })?;
+    match found {
+        Some(record) => rt.println(record)?,
+        None => rt.println("no record")?,
+    }
     Ok(())
 }
 

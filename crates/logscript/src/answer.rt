@@ -64,27 +64,6 @@ pub fn perform<L: IntentLog + Shows>(log: &mut L, command: &Command) -> Result<A
     })
 }
 
-fn write_ring<W: fmt::Write>(f: &mut fmt::Formatter<W>, found: Option<Record>) -> fmt::Result {
-    let Some(record) = found else {
-        return f.write_str("no record");
-    };
-    let version = record.version();
-    write!(f, "version {version} stripes")?;
-    let stripes = record.stripes();
-    for stripe in stripes.as_slice() {
-        write!(f, " {stripe}")?;
-    }
-    Ok(())
-}
-
-fn write_flag<W: fmt::Write>(f: &mut fmt::Formatter<W>, found: Option<FlagRecord>) -> fmt::Result {
-    match found {
-        Some(FlagRecord::NamesNothing) => f.write_str("names nothing"),
-        Some(FlagRecord::NamesEvery) => f.write_str("names every stripe"),
-        None => f.write_str("no record"),
-    }
-}
-
 impl fmt::Display for Answer {
     fn fmt<W: fmt::Write>(&self, f: &mut fmt::Formatter<W>) -> fmt::Result {
         match *self {
@@ -93,8 +72,9 @@ impl fmt::Display for Answer {
             Answer::Truth(false) => f.write_str("no"),
             Answer::Next(Some(stripe)) => write!(f, "{stripe}"),
             Answer::Next(None) => f.write_str("none"),
-            Answer::Ring(found) => write_ring(f, found),
-            Answer::Flag(found) => write_flag(f, found),
+            Answer::Ring(Some(record)) => write!(f, "{record}"),
+            Answer::Flag(Some(record)) => write!(f, "{record}"),
+            Answer::Ring(None) | Answer::Flag(None) => f.write_str("no record"),
         }
     }
 }

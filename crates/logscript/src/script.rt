@@ -2,6 +2,7 @@
 ghost use Rattle.std.specs.Prelude.{◌<◌, ◌≤◌, IfOk};
 
 use super::command::Command;
+use block_address::Address;
 use member_store::{BLOCK_BYTES, MemberStore};
 use memory_store::memory::MemoryStore;
 use program_parts::line_error::{LineError, NoForm};
@@ -106,11 +107,11 @@ impl Script {
         };
         let slot = slot.parse::<usize>().ok().ok_or(NoForm)?;
         let members = self.memory.members().max(1);
-        let bytes = block_of(hex)?;
-        self.memory
-            .store(slot % members, slot / members, &bytes)
-            .ok()
-            .ok_or(NoForm)
+        let at = Address {
+            member: slot % members,
+            block: slot / members,
+        };
+        self.memory.store(at, &block_of(hex)?).ok().ok_or(NoForm)
     }
 
     // Keeps a command, and at a power-on what it sets the fuse to.

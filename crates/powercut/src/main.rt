@@ -36,9 +36,7 @@ fn cut(heap: Global, left: usize) -> anyhow::Result<Report> {
         .context("no memory for the write buffer")?;
     let progress = cut_script::run(&mut store);
     store.power_on();
-    let stands = cut_script::standing(&mut store)
-        .ok()
-        .context("a read was refused")?;
+    let stands = cut_script::standing(&mut store).context("a read was refused")?;
     Ok(Report { progress, stands })
 }
 

@@ -1,6 +1,6 @@
 // What the program tells: a line for each block, and which stores survived.
+use block_address::Address;
 use cut_script::{FIRST_BARRIER, MEMBERS, Progress, SECOND_BARRIER, STORES, last_store, place_of};
-use member_store::refusal::Place;
 use std::fmt;
 
 /// The array of blocks after the cut.
@@ -14,7 +14,7 @@ pub struct Report {
 /// A block after the cut.
 #[derive(Clone, Copy)]
 struct Row {
-    place: Place,
+    place: Address,
     progress: Progress,
     stands: u8,
 }
@@ -22,7 +22,7 @@ struct Row {
 // Writes the numbers of the stores above `after` and up to `to` that went to the block.
 fn write_stores<W: fmt::Write>(
     f: &mut fmt::Formatter<W>,
-    place: Place,
+    place: Address,
     after: u8,
     to: u8,
 ) -> fmt::Result {
@@ -71,7 +71,7 @@ impl fmt::Display for Report {
         write_cut(f, self.progress)?;
         for (number, stands) in self.stands.iter().enumerate() {
             let row = Row {
-                place: Place {
+                place: Address {
                     member: number % MEMBERS,
                     block: number / MEMBERS,
                 },

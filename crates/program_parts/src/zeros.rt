@@ -21,13 +21,14 @@ pub fn zeros(heap: Global, members: usize, blocks: usize) -> Result<MemoryStore,
 #[cfg(test)]
 mod tests {
     use super::*;
+    use block_address::Address;
 
     #[test]
     fn all_blocks_are_zeros(rt: HostRuntime) -> Result<(), AllocError> {
         let store = zeros(rt.alloc(), 2, 3)?;
         for member in 0..2 {
             for block in 0..3 {
-                let bytes = store.block_bytes(member, block);
+                let bytes = store.block_bytes(Address { member, block });
                 assert!(rt; bytes.is_some_and(|bytes| bytes == [0u8; BLOCK_BYTES].as_slice()));
             }
         }

@@ -1,6 +1,8 @@
 // A file over the members of an array and back: laid out with parity, one member forgotten and worked out again.
+use block_address::Address;
+use geometry::array_geometry::Geometry;
 use geometry::layout::Layout;
-use geometry::place::{Address, Location};
+use geometry::place::Location;
 use geometry::shape::Shape;
 use member_store::{BLOCK_BYTES, MemberStore};
 use stripe_work::data::{CachedBlocks, MOST_POSITIONS};
@@ -39,13 +41,12 @@ fn stripe_blocks(file: &[u8], shape: Shape, stripe: usize) -> CachedBlocks {
 /// Lays the file over the members, stripe by stripe, with parity.
 pub fn lay_out<S: MemberStore, L: Layout>(
     store: &mut S,
-    layout: &L,
-    shape: Shape,
+    geometry: &Geometry<L>,
     file: &[u8],
 ) -> Result<(), StripeRefusal> {
-    for stripe in 0..shape.stripes() {
-        let cached = stripe_blocks(file, shape, stripe);
-        destage_stripe(store, layout, shape, stripe, &cached)?;
+    for stripe in 0..geometry.shape.stripes() {
+        let cached = stripe_blocks(file, geometry.shape, stripe);
+        destage_stripe(store, geometry, stripe, &cached)?;
     }
     Ok(())
 }
@@ -53,7 +54,7 @@ pub fn lay_out<S: MemberStore, L: Layout>(
 /// Overwrites all blocks of a member.
 pub fn forget<S: MemberStore>(store: &mut S, member: usize) -> Result<(), StripeRefusal> {
     for block in 0..store.blocks() {
-        store.store(member, block, &FORGOTTEN)?;
+        store.store(Address { member, block }, &FORGOTTEN)?;
     }
     Ok(())
 }
@@ -61,44 +62,42 @@ pub fn forget<S: MemberStore>(store: &mut S, member: usize) -> Result<(), Stripe
 /// Works all blocks of a member out of the others and stores them; says how many.
 pub fn work_out<S: MemberStore, L: Layout>(
     store: &mut S,
-    layout: &L,
-    shape: Shape,
+    geometry: &Geometry<L>,
     member: usize,
 ) -> Result<usize, StripeRefusal> {
-    for block in 0..shape.blocks() {
+    let blocks = geometry.shape.blocks();
+    for block in 0..blocks {
         let mut bytes = [0u8; BLOCK_BYTES];
         let at = Address { member, block };
-        reconstruct_block(store, layout, shape, at, &mut bytes)?;
-        store.store(member, block, &bytes)?;
+        reconstruct_block(store, geometry, at, &mut bytes)?;
+        store.store(at, &bytes)?;
     }
-    Ok(shape.blocks())
+    Ok(blocks)
 }
 
 // Does a block of the array hold that of the file?
 fn holds_block<S: MemberStore, L: Layout>(
     store: &mut S,
-    layout: &L,
-    shape: Shape,
+    geometry: &Geometry<L>,
     file: &[u8],
     block: usize,
 ) -> Result<bool, StripeRefusal> {
-    let Some(at) = shape.data_address(layout, block) else {
+    let Some(at) = geometry.data_address(block) else {
         return Ok(false);
     };
     let mut bytes = [0u8; BLOCK_BYTES];
-    store.read(at.member, at.block, &mut bytes)?;
+    store.read(at, &mut bytes)?;
     Ok(bytes == file_block(file, block))
 }
 
 /// Do the members hold all bytes of the file?
 pub fn holds_file<S: MemberStore, L: Layout>(
     store: &mut S,
-    layout: &L,
-    shape: Shape,
+    geometry: &Geometry<L>,
     file: &[u8],
 ) -> Result<bool, StripeRefusal> {
     for block in 0..blocks_for(file.len()) {
-        if !holds_block(store, layout, shape, file, block)? {
+        if !holds_block(store, geometry, file, block)? {
             return Ok(false);
         }
     }

@@ -7,6 +7,7 @@ mod summary;
 mod words;
 
 use anyhow::Context;
+use geometry::array_geometry::Geometry;
 use geometry::layout::{Layout, LeftAsymmetric, LeftSymmetric, RightAsymmetric};
 use geometry::shape::{MemberCount, Shape};
 use memory_store::memory::MemoryStore;
@@ -33,18 +34,17 @@ fn shape_for(members: MemberCount, blocks: usize) -> Option<Shape> {
 // Lays the file out, loses a member and works it out again.
 fn carry_over<L: Layout>(
     store: &mut MemoryStore,
-    layout: &L,
-    shape: Shape,
+    geometry: &Geometry<L>,
     lost: usize,
     file: &[u8],
 ) -> Result<Carried, StripeRefusal> {
-    carry::lay_out(store, layout, shape, file)?;
+    carry::lay_out(store, geometry, file)?;
     carry::forget(store, lost)?;
     Ok(Carried {
         lost,
-        worked_out: carry::work_out(store, layout, shape, lost)?,
-        wrong: count_wrong_stripes(store, layout, shape)?,
-        back: carry::holds_file(store, layout, shape, file)?,
+        worked_out: carry::work_out(store, geometry, lost)?,
+        wrong: count_wrong_stripes(store, geometry)?,
+        back: carry::holds_file(store, geometry, file)?,
     })
 }
 
@@ -57,14 +57,15 @@ fn summarize<L: Layout>(
     let blocks = carry::blocks_for(file.len());
     let shape = shape_for(order.members, blocks).context("the array would be too large")?;
     let mut store = zeros(heap, shape.members().get(), shape.blocks())?;
-    let carried = carry_over(&mut store, layout, shape, order.lost, file)
+    let geometry = Geometry { layout, shape };
+    let carried = carry_over(&mut store, &geometry, order.lost, file)
         .ok()
         .context("the members refused a call")?;
     Ok(Summary {
         bytes: file.len(),
         blocks,
         layout: order.layout,
-        picture: Picture::new(layout, shape),
+        picture: Picture::new(&geometry),
         carried,
     })
 }

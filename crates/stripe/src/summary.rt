@@ -1,7 +1,9 @@
 // What was done, as text.
+use block_address::Address;
+use geometry::array_geometry::Geometry;
 use geometry::layout::Layout;
-use geometry::place::{Address, Content};
-use geometry::shape::{MOST_MEMBERS, Shape};
+use geometry::place::Content;
+use geometry::shape::MOST_MEMBERS;
 use program_parts::layout_kind::LayoutKind;
 use std::{array, fmt};
 
@@ -48,20 +50,20 @@ pub struct Summary {
 }
 
 impl Cell {
-    fn new<L: Layout>(layout: &L, shape: Shape, stripe: usize, member: usize) -> Cell {
-        let parity = shape.parity_address(layout, stripe);
+    fn new<L: Layout>(geometry: &Geometry<L>, stripe: usize, member: usize) -> Cell {
+        let parity = geometry.parity_address(stripe);
         Cell(parity.and_then(|at| {
             let block = at.block;
-            shape.content(layout, Address { member, block })
+            geometry.content(Address { member, block })
         }))
     }
 }
 
 impl Tally {
-    fn new<L: Layout>(layout: &L, shape: Shape, member: usize) -> Tally {
+    fn new<L: Layout>(geometry: &Geometry<L>, member: usize) -> Tally {
         let mut tally = Tally::default();
-        for stripe in 0..shape.stripes() {
-            match Cell::new(layout, shape, stripe, member).0 {
+        for stripe in 0..geometry.shape.stripes() {
+            match Cell::new(geometry, stripe, member).0 {
                 Some(Content::Data(_)) => tally.data_blocks = tally.data_blocks.saturating_add(1),
                 Some(Content::Parity) => {
                     tally.parity_blocks = tally.parity_blocks.saturating_add(1)
@@ -74,14 +76,14 @@ impl Tally {
 }
 
 impl Picture {
-    /// What lies where in an array of this shape and layout.
-    pub fn new<L: Layout>(layout: &L, shape: Shape) -> Picture {
+    /// What lies where in an array of this geometry.
+    pub fn new<L: Layout>(geometry: &Geometry<L>) -> Picture {
         Picture {
-            members: shape.members().get(),
-            stripes: shape.stripes(),
-            tallies: array::from_fn(|member| Tally::new(layout, shape, member)),
+            members: geometry.shape.members().get(),
+            stripes: geometry.shape.stripes(),
+            tallies: array::from_fn(|member| Tally::new(geometry, member)),
             cells: array::from_fn(|stripe| {
-                array::from_fn(|member| Cell::new(layout, shape, stripe, member))
+                array::from_fn(|member| Cell::new(geometry, stripe, member))
             }),
         }
     }
