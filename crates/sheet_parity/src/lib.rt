@@ -56,7 +56,12 @@ pub fn wrong_stripes(memory: &MemoryStore, stripes: usize) -> usize
     ensures right { result ≡ 0 → AllRight (memory_means memory.now) stripes }
     ensures wrong { AllRight (memory_means memory.now) stripes → result ≡ 0 }
 {
-    (0..stripes)
-        .filter(|stripe| !is_right(memory, *stripe))
-        .count()
+    // Kept: the proof of a `filter` needs the test as a function of the stripe, and `is_right` only decides a fact.
+    let mut wrong = 0;
+    for stripe in 0..stripes {
+        if !is_right(memory, stripe) {
+            wrong += 1;
+        }
+    }
+    wrong
 }
