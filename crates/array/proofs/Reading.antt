@@ -1,21 +1,33 @@
 -- Reads of a block, as what the array's calls do. Assumes nothing.
-use Rattle.std.proofs.Common.{◌≡◌, ℕ, List, [], ◌∷◌, length, Some, None, Ok, Err, OnErr, Option, sym, refl, ap, subst, arith}
+use Rattle.std.proofs.Common.{◌≡◌, ℕ, ◌<◌, cond, eqb, List, [], ◌∷◌, length, Some, None, Ok, Err, OnErr, Option, sym, refl, ap, ◌∙◌, subst, arith}
+use Rattle.std.proofs.lemmas.Bool.{lt-ltb, eq-eqb}
 use Rattle.std.specs.Option as options
+use Rattle.std.specs.Option.{option_or}
+use Rattle.geometry.specs.Counts.{members_of, blocks_of}
+use Rattle.geometry.specs.Places.{data_blocks}
+use Rattle.geometry.specs.declared.shape.Shape.{Shape}
 use Rattle.member_store.specs.Meaning as store
 use Rattle.member_store.specs.Calls.{SameCounts}
 use Rattle.intent_log.specs.Meaning as intent
 use Rattle.cache.specs.Contents.{Contents, newest}
-use Rattle.array_model.specs.Meaning.{Meaning, Geometry, array, held}
+use Rattle.array_model.specs.Meaning.{Meaning, Arrange, Geometry, geometry_on, array, held}
 use Rattle.array_model.specs.Checks.{block_checks}
 use Rattle.array_model.specs.Work.{devices, Declines}
 use Rattle.array_model.specs.Calls.{Plain, Fetches, read_calls, InReady, ReadsNewest, Reads}
 use Rattle.array_model.specs.declared.state.State.{State}
 use Rattle.array_model.specs.declared.state.State.TheVariants.{Fallen, Ready}
 use Rattle.array_model.specs.declared.refusal.ArrayRefusal.{ArrayRefusal}
+use Rattle.array_model.specs.declared.refusal.ArrayRefusal.TheVariants.{NoBlock, WrongLength}
 use Rattle.array_model.proofs.Cases.{ok≢err}
-use Rattle.array_work.specs.Outcomes.{state_told, state_after}
+use Rattle.array_work.specs.Outcomes.{sized, state_told, state_after}
 use Rattle.array.specs.Sound.{SoundIn}
-use Rattle.array.proofs.Kept.{counts_same, all_counts, ready_still}
+use Rattle.array.proofs.Kept.{shape_geometry, counts_same, all_counts, ready_still}
+
+-- the checks of a block call pass
+passes : (g : Geometry) (k n : ℕ) → k < data_blocks g.members g.blocks → n ≡ 512 → block_checks g k n ≡ None
+passes g k n h e =
+    ap (λ b. option_or (cond b None (Some (NoBlock k))) (cond (eqb n 512) None (Some (WrongLength n)))) (lt-ltb k (data_blocks g.members g.blocks) h)
+    ∙ ap (λ b. cond b None (Some (WrongLength n))) (eq-eqb n 512 e)
 
 module _ (g : Geometry) (q : State) (c : Contents) (m : store.Meaning) (l : intent.Meaning) (k : ℕ) (old new : List ℕ) where
   abbrev before : Meaning
@@ -28,6 +40,11 @@ module _ (g : Geometry) (q : State) (c : Contents) (m : store.Meaning) (l : inte
   reads_no e ready same h =
       subst (λ p. InReady ReadAs p before (Err e) before) (sym ready)
       (subst (λ o. options.MatchOption o (ReadsNewest g k old new before (Err e) before) (λ d. Declines {A = Unit {0}} d before (Err e) before × (new ≡ old))) (sym h) ((refl, refl), same))
+
+  pub reads : (r : Plain) (t : Meaning) → q ≡ Ready → block_checks g k (length old) ≡ None → ReadsNewest g k old new before r t → Reads g k old new before r t
+  reads r t ready h d =
+      subst (λ p. InReady ReadAs p before r t) (sym ready)
+      (subst (λ o. options.MatchOption o (ReadsNewest g k old new before r t) (λ e. Declines e before r t × (new ≡ old))) (sym h) d)
 
   module _ (m' : store.Meaning) where
     abbrev Newest : Option (List ℕ) → Plain → Meaning → Type 0
@@ -48,6 +65,13 @@ module _ (g : Geometry) (q : State) (c : Contents) (m : store.Meaning) (l : inte
     pub read_sound : (sound : Type 0) (r : Plain) → q ≡ Ready → ReadsNewest g k old new before r (array (state_after q r) c m' l) → SoundIn q sound m l → SoundIn (state_after q r) sound m' l
     read_sound sound (Ok u) ready d h = ready_still q sound m m' l ready (kept_by (newest k c) d) h
     read_sound sound (Err e) ready d h = subst (λ x. SoundIn x sound m' l) (sym (falls_by e (state_told q e) (newest k c) d)) tt
+
+-- a read of a block that there is, in an array with the counts of the members
+module _ (arrange : Arrange) (a : Shape) (q : State) (c : Contents) (m : store.Meaning) (l : intent.Meaning) (k : ℕ) (old new : List ℕ) (p : members_of a ≡ m.members) (n : blocks_of a ≡ m.blocks) (there : k < data_blocks (members_of a) (blocks_of a)) (whole : length old ≡ 512) where
+  pub reads_by : (r : Plain) (t : Meaning) → q ≡ Ready → ReadsNewest (sized arrange a) k old new (array q c m l) r t → Reads (geometry_on arrange m) k old new (array q c m l) r t
+  reads_by r t ready d =
+      subst (λ g. Reads g k old new (array q c m l) r t) (shape_geometry arrange a m p n)
+      (reads (sized arrange a) q c m l k old new r t ready (passes (sized arrange a) k (length old) there whole) d)
 
 -- a refused read leaves the buffer as it was
 pub refused_keeps : (g : Geometry) (k : ℕ) (old new : List ℕ) (s t : Meaning) (r : Plain) → ReadsNewest g k old new s r t → OnErr r (new ≡ old)

@@ -35,13 +35,7 @@ impl<S: MemberStore, G: IntentLog, L: Layout> Array<S, G, L> {
                     layout: &self.layout,
                     shape,
                 };
-                let outcome = read_newest(
-                    &mut self.store,
-                    &geometry,
-                    &self.caches,
-                    block,
-                    into,
-                );
+                let outcome = read_newest(&mut self.store, &geometry, &self.caches, block, into);
                 or_fall(&mut self.state, outcome)
             }
             State::Fallen | State::Down | State::Resync(_) | State::Short(_) => Err(

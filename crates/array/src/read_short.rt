@@ -77,13 +77,7 @@ impl<S: MemberStore, G: IntentLog, L: Layout> Array<S, G, L> {
                     layout: &self.layout,
                     shape,
                 };
-                let outcome = read_without(
-                    &mut self.store,
-                    &geometry,
-                    absent,
-                    block,
-                    into,
-                );
+                let outcome = read_without(&mut self.store, &geometry, absent, block, into);
                 or_fall(&mut self.state, outcome)
             }
             State::Fallen | State::Down | State::Resync(_) | State::Ready => Err(

@@ -18,8 +18,7 @@ returns-in_ok-shape-in-Ready-clause-sound g c =
     let z = g.G.IntentLog.sound c.args.self.now.log in
     let z' = g.G.IntentLog.sound w.new.log in
     let shape = c.in_ok-shape-in-Ready.shape in
-    let f = c.in_ok-shape-in-Ready.ensures in
     let e = c.in-Ready.is in
     λ h. let o = sound_as q Ready z m l e h in
     rw (c.or_fall.ensures.leaves, c.or_fall.ensures.same)
-    (flushed_sound a shape q d m l e f.1 f.2 d' m' l' w.result z z' (w.ensures.sound o.0.0) o (w.ensures.does o.0.0 o.0.1))
+    (flushed_sound a shape q d m l e d' m' l' w.result z z' (w.ensures.sound o.0.0) o (w.ensures.does o.0.0 o.0.1))

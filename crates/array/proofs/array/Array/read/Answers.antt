@@ -4,11 +4,11 @@ use Rattle.array_model.specs.Meaning.{array, geometry_on}
 use Rattle.array_work.specs.Outcomes.{sized, state_after}
 use Rattle.array_model.specs.declared.state.State.TheVariants.{Ready}
 use Rattle.array.proofs.Kept.{sound_as}
-use Rattle.array.proofs.Reading.{reads_no, read_sound, refused_keeps}
+use Rattle.array.proofs.Reading.{reads_no, reads_by, read_sound, refused_keeps}
 use Rattle.array.proofs.array.Array.read.Goals as goal
 
-pub returns-in_ok-shape-in-Ready-clause-sound : goal.returns-in_ok-shape-in-Ready-clause-sound
-returns-in_ok-shape-in-Ready-clause-sound g c =
+pub returns-in_ok-shape-in-Ready : goal.returns-in_ok-shape-in-Ready
+returns-in_ok-shape-in-Ready g c =
     let q = c.args.self.now.state in
     let d = contents c.args.self.now.caches in
     let m = g.S.MemberStore.meaning c.args.self.now.store in
@@ -17,20 +17,18 @@ returns-in_ok-shape-in-Ready-clause-sound g c =
     let n = g.S.MemberStore.meaning o.new.store in
     let a = g.L.Layout.arrangement in
     let z = g.G.IntentLog.sound c.args.self.now.log in
-    λ h. rw (c.or_fall.ensures.leaves, c.or_fall.ensures.same)
-    (read_sound (sized a c.in_ok-shape-in-Ready.shape) q d m l c.args.block c.args.into.now o.new.into n z o.result c.in-Ready.is (o.ensures q l) h)
-
-pub returns-in_ok-shape-in-Ready-clause-kept : goal.returns-in_ok-shape-in-Ready-clause-kept
-returns-in_ok-shape-in-Ready-clause-kept g c =
-    let q = c.args.self.now.state in
-    let d = contents c.args.self.now.caches in
-    let m = g.S.MemberStore.meaning c.args.self.now.store in
-    let l = g.G.IntentLog.meaning c.args.self.now.log in
-    let o = c.read_newest-outcome in
-    let n = g.S.MemberStore.meaning o.new.store in
-    let a = g.L.Layout.arrangement in
-    rw c.or_fall.ensures.same
-    (refused_keeps (sized a c.in_ok-shape-in-Ready.shape) c.args.block c.args.into.now o.new.into (array q d m l) (array (state_after q o.result) d n l) o.result (o.ensures q l))
+    let k = c.args.block in
+    let old = c.args.into.now in
+    let new = o.new.into in
+    let shape = c.in_ok-shape-in-Ready.shape in
+    let f = c.in_ok-shape-in-Ready.ensures in
+    let w = o.ensures q l in
+    let t = array (state_after q o.result) d n l in
+    record {
+      sound = λ h. rw (c.or_fall.ensures.leaves, c.or_fall.ensures.same) (read_sound (sized a shape) q d m l k old new n z o.result c.in-Ready.is w h);
+      does = λ h. rw (c.or_fall.ensures.leaves, c.or_fall.ensures.same) (reads_by a shape q d m l k old new f.0 f.1 f.2 f.3 o.result t c.in-Ready.is w);
+      kept = rw c.or_fall.ensures.same (refused_keeps (sized a shape) k old new (array q d m l) t o.result w);
+    }
 
 pub returns-in_err-shape-in-Ready-clause-does : goal.returns-in_err-shape-in-Ready-clause-does
 returns-in_err-shape-in-Ready-clause-does g c =
