@@ -1,5 +1,4 @@
 pub mod Formatting
-pub mod AllNamed
 pub mod Fetching
 pub mod Changing
 pub mod Falling

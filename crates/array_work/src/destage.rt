@@ -29,8 +29,7 @@ use member_store::MemberStore;
 use stripe_work::destage::destage_stripe;
 use stripe_work::refusal::StripeRefusal;
 
-// Kept: store, log and caches are lent one by one; a struct of three loans would be built of the array's fields at each
-// call and taken apart again.
+// Kept: a struct of the loans of store, log and caches would be built of the array's fields at each call, and taken apart here.
 
 // Writes a stripe's blocks in the destaging cache to the members, then its parity.
 fn write_stripe<S: MemberStore, L: Layout>(

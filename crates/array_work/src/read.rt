@@ -22,8 +22,7 @@ use geometry::shape::Shape;
 use member_store::{BLOCK_BYTES, MemberStore};
 use stripe_work::reconstruct::reconstruct_block;
 
-// Kept: the bound of a block's number and the length of a buffer stand in four contracts; the array's checks show both just
-// before, and types for them would be made there only to be taken apart here.
+// Kept: the array's checks show a block's bound and a buffer's length just before; types for both would only be taken apart here.
 
 /// Where a block of the array lies.
 pub fn address_of_block<L: Layout>(geometry: &Geometry<L>, block: usize) -> Address

@@ -11,8 +11,16 @@ use Rattle.array_model.specs.declared.state.State.TheVariants.{Ready}
 use Rattle.array_work.proofs.Changing.{changes, declines, some_stripe}
 use Rattle.array_work.proofs.destage.change_caches.Goals as goal
 
-pub returns : goal.returns
-returns g c =
+pub returns-clause-caches : goal.returns-clause-caches
+returns-clause-caches g c =
+    let b = contents c.args.caches.now in
+    let w = c.as_slice-stripes.result.now in
+    let lt : 0 < length w = grind (arith, nat_tests) in
+    let list : Listed (members_of c.args.shape) (blocks_of c.args.shape) b.buffering w = subst (λ ys. Listed (members_of c.args.shape) (blocks_of c.args.shape) b.buffering ys) (sym c.as_slice-stripes.ensures) c.buffering_stripes-list.ensures in
+    (c.in_ok-puts.ensures.few, some_stripe (members_of c.args.shape) (blocks_of c.args.shape) b.buffering w list lt, c.change_places.ensures)
+
+pub returns-clause-does : goal.returns-clause-does
+returns-clause-does g c h on =
     let b = contents c.args.caches.now in
     let m = g.S.MemberStore.meaning c.args.store.now in
     let l = g.G.IntentLog.meaning c.args.log.now in
@@ -21,11 +29,7 @@ returns g c =
     let w = c.as_slice-stripes.result.now in
     let lt : 0 < length w = grind (arith, nat_tests) in
     let list : Listed (members_of c.args.shape) (blocks_of c.args.shape) b.buffering w = subst (λ ys. Listed (members_of c.args.shape) (blocks_of c.args.shape) b.buffering ys) (sym c.as_slice-stripes.ensures) c.buffering_stripes-list.ensures in
-    record {
-      sound = λ h. c.name_stripes.ensures.sound h;
-      caches = (c.in_ok-puts.ensures.few, some_stripe (members_of c.args.shape) (blocks_of c.args.shape) b.buffering w list lt, c.change_places.ensures);
-      does = λ h on. (w, list, subst (λ x. ChangesCaches w (array Ready b m l) (Ok (Changed c.in_ok-puts.puts)) (array Ready x n k)) (sym c.change_places.ensures) (changes b m l n k w c.in_ok-puts.puts lt (c.in_ok-puts.ensures.does Ready b h on)));
-    }
+    (w, list, subst (λ x. ChangesCaches w (array Ready b m l) (Ok (Changed c.in_ok-puts.puts)) (array Ready x n k)) (sym c.change_places.ensures) (changes b m l n k w c.in_ok-puts.puts lt (c.in_ok-puts.ensures.does Ready b h on)))
 
 pub returns-in_err-puts-clause-does : goal.returns-in_err-puts-clause-does
 returns-in_err-puts-clause-does g c h on =

@@ -57,8 +57,8 @@ loop-counts-preserved g c =
     one_changed a z (g.G.IntentLog.sound c.args.log.now) (g.G.IntentLog.sound c.loop-counts.log) (g.G.IntentLog.sound c.destage_once.new.log) c.loop-counts.counts.stripes c.loop-counts.counts.puts b (g.S.MemberStore.meaning c.loop-counts.store) l c.loop-counts.invariant
     c.in_ok-destage_once.field-0 d (g.S.MemberStore.meaning c.destage_once.new.store) (g.G.IntentLog.meaning c.destage_once.new.log) h.sound h.does h.caches c.in-Changed.puts c.in-Changed.is
 
-pub returns-in-Idle : goal.returns-in-Idle
-returns-in-Idle g c =
+pub returns-in-Idle-clause-does : goal.returns-in-Idle-clause-does
+returns-in-Idle-clause-does g c h on =
     let b = contents c.loop-counts.caches in
     let d = contents c.destage_once.new.caches in
     let a = sized g.L.Layout.arrangement c.args.geometry.now.shape in
@@ -67,13 +67,9 @@ returns-in-Idle g c =
     let l = g.G.IntentLog.meaning c.loop-counts.log in
     let t = array Ready d (g.S.MemberStore.meaning c.destage_once.new.store) (g.G.IntentLog.meaning c.destage_once.new.log) in
     let i = c.loop-counts.invariant in
-    record {
-      sound = λ h. c.in_ok-destage_once.ensures.sound (i.sound h);
-      does = λ h on.
-          let k = i.drains h on in
-          let e = idle a z c.loop-counts.counts.stripes c.loop-counts.counts.puts b u l t c.in_ok-destage_once.field-0 c.in-Idle.is (c.in_ok-destage_once.ensures.does (i.sound h) k.0) in
-          (c.loop-counts.counts.stripes, c.loop-counts.counts.puts, array Ready b u l, k.1, (refl, e.0, e.1));
-    }
+    let k = i.drains h on in
+    let e = idle a z c.loop-counts.counts.stripes c.loop-counts.counts.puts b u l t c.in_ok-destage_once.field-0 c.in-Idle.is (c.in_ok-destage_once.ensures.does (i.sound h) k.0) in
+    (c.loop-counts.counts.stripes, c.loop-counts.counts.puts, array Ready b u l, k.1, (refl, e.0, e.1))
 
 pub returns-in_err-destage_once-clause-does : goal.returns-in_err-destage_once-clause-does
 returns-in_err-destage_once-clause-does g c h on =

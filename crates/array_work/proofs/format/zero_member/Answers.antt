@@ -1,7 +1,7 @@
-use Rattle.std.proofs.Common.{◌≡◌, ℕ, ◌<◌, [], ◌∷◌, subst, arith}
+use Rattle.std.proofs.Common.{◌<◌, [], ◌∷◌, arith}
 use Rattle.std.proofs.lemmas.Result.{err_from_is_err_and}
 use Rattle.parity.specs.Xor.{zeros}
-use Rattle.device_calls.specs.Lists.{store, for_each, Completed}
+use Rattle.device_calls.specs.Lists.{store}
 use Rattle.device_calls.proofs.Append.{for_each_more, for_each_stopped}
 use Rattle.array_work.proofs.Formatting.{zeroed, not_zeroed}
 use Rattle.array_work.proofs.format.zero_member.Goals as goal
@@ -22,8 +22,3 @@ returns-in_err-store g c =
     rw (p.1, p.2)
     (for_each_stopped (λ b. store c.args.member b zeros ∷ []) c.args.blocks c.loop-block.block (g.S.MemberStore.meaning c.args.store.now) u _ t l c.loop-block.invariant
     (not_zeroed c.args.member c.loop-block.block u _ t c.in_err-store.ensures.means))
-
-pub returns : goal.returns
-returns g c =
-    let e : c.loop-block.block ≡ c.args.blocks = omega arith in
-    subst (λ (n : ℕ). Completed (for_each (λ b. store c.args.member b zeros ∷ []) n) (g.S.MemberStore.meaning c.args.store.now) (g.S.MemberStore.meaning c.loop-block.store)) e c.loop-block.invariant

@@ -1,8 +1,8 @@
-use Rattle.std.proofs.Common.{◌≡◌, ℕ, ◌<◌, [], ◌∷◌, subst, arith}
+use Rattle.std.proofs.Common.{◌<◌, [], ◌∷◌, arith}
 use Rattle.std.proofs.lemmas.Result.{err_from_is_err_and}
 use Rattle.geometry.specs.Counts.{members_of}
 use Rattle.parity.specs.Xor.{zeros}
-use Rattle.device_calls.specs.Lists.{store, for_each, Completed}
+use Rattle.device_calls.specs.Lists.{store, for_each}
 use Rattle.device_calls.proofs.Append.{for_each_more, for_each_stopped}
 use Rattle.array_work.proofs.format.zero_members.Goals as goal
 
@@ -21,11 +21,3 @@ returns-in_err-zero_member g c =
     let p = err_from_is_err_and c.from_residual.result c.from_residual.ensures.1 in
     rw (p.1, p.2, ← c.blocks-blocks.ensures.value)
     (for_each_stopped (λ m. for_each (λ b. store m b zeros ∷ []) c.blocks-blocks.result) (members_of c.args.shape) c.loop-member.member s u _ t l c.loop-member.invariant c.in_err-zero_member.ensures)
-
-pub returns : goal.returns
-returns g c =
-    let s = g.S.MemberStore.meaning c.args.store.now in
-    let t = g.S.MemberStore.meaning c.loop-member.store in
-    let e : c.loop-member.member ≡ members_of c.args.shape = omega arith in
-    let d = subst (λ (n : ℕ). Completed (for_each (λ m. for_each (λ b. store m b zeros ∷ []) c.blocks-blocks.result) n) s t) e c.loop-member.invariant in
-    subst (λ (n : ℕ). Completed (for_each (λ m. for_each (λ b. store m b zeros ∷ []) n) (members_of c.args.shape)) s t) c.blocks-blocks.ensures.value d
