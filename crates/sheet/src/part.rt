@@ -25,14 +25,14 @@ fn until_uncut<F: FnMut(usize) -> anyhow::Result<bool>>(
 }
 
 #[derive(Clone, Copy)]
-pub struct Part<'a> {
-    rt: &'a HostRuntime,
+pub struct Part<'r, 's, 'c> {
+    rt: &'r HostRuntime,
     kind: LogKind,
-    script: &'a Script<'a>,
+    script: &'s Script<'c>,
 }
 
-impl<'a> Part<'a> {
-    pub fn new(rt: &'a HostRuntime, kind: LogKind, script: &'a Script<'a>) -> Part<'a> {
+impl<'r, 's, 'c> Part<'r, 's, 'c> {
+    pub fn new(rt: &'r HostRuntime, kind: LogKind, script: &'s Script<'c>) -> Part<'r, 's, 'c> {
         Part { rt, kind, script }
     }
 

@@ -12,11 +12,6 @@ pub struct Ages {
     kinds: Vec<TokenKind>,
 }
 
-// Does a refused finish or close leave the token? It does where the state does not allow the call.
-fn leaves_token(refusal: &ArrayRefusal) -> bool {
-    matches!(refusal, ArrayRefusal::WrongState(_))
-}
-
 // The token that a call has taken, by what it answered.
 fn taken(call: &Call, answer: &Answer) -> Option<TokenKind> {
     let kind = match call {
@@ -26,9 +21,10 @@ fn taken(call: &Call, answer: &Answer) -> Option<TokenKind> {
         _ => return None,
     };
     match answer {
-        Answer::NoToken => None,
-        Answer::Finish(Err(e)) if leaves_token(e) => None,
-        Answer::Plain(Err(e)) if leaves_token(e) => None,
+        // Where the state does not allow the call, a finish or close leaves the token.
+        Answer::NoToken
+        | Answer::Finish(Err(ArrayRefusal::WrongState(_)))
+        | Answer::Plain(Err(ArrayRefusal::WrongState(_))) => None,
         _ => Some(kind),
     }
 }

@@ -35,8 +35,8 @@ fn done_word(command: Command) -> &'static str {
 fn fill_of(bytes: &[u8]) -> Option<u8>
     ensures { FillOf bytes.now result }
 {
-    let (fill, rest) = bytes.split_first()?;
-    rest.iter().all(|byte| byte == fill).then_some(*fill)
+    let fill = *bytes.first()?;
+    bytes.iter().all(|byte| *byte == fill).then_some(fill)
 }
 
 fn write_read<W: fmt::Write>(f: &mut fmt::Formatter<W>, bytes: &[u8]) -> fmt::Result {
