@@ -3,14 +3,16 @@
 
 mod lines;
 
-use anyhow::anyhow;
+use anyhow::{Context, anyhow};
 use block_address::Address;
 use flag_log::flag::FlagLog;
 use intent_log::IntentLog;
 use intent_log::refusal::LogRefusal;
-use lines::{FlagLine, RingLine, SlotLine};
+use lines::SlotLine;
 use member_store::{BLOCK_BYTES, MemberStore};
 use memory_store::memory::MemoryStore;
+use program_parts::ending::end;
+use program_parts::log_kind::LogKind;
 use record::form::Record;
 use ring_log::ring::RingLog;
 use ring_log::slots_of;
@@ -20,27 +22,12 @@ use std::process::ExitCode;
 
 const USAGE: &str = "usage: intentdump ring|flag MEMBERS BLOCKS < IMAGE";
 
-// The kinds of log.
-#[derive(Clone, Copy)]
-enum Kind {
-    Ring,
-    Flag,
-}
-
 // What the command line asks for.
 #[derive(Clone, Copy)]
 struct Request {
-    kind: Kind,
+    kind: LogKind,
     members: usize,
     blocks: usize,
-}
-
-fn kind_of(word: &str) -> Option<Kind> {
-    match word {
-        "ring" => Some(Kind::Ring),
-        "flag" => Some(Kind::Flag),
-        _ => None,
-    }
 }
 
 fn asked(rt: &HostRuntime) -> anyhow::Result<Request> {
@@ -54,30 +41,22 @@ fn asked(rt: &HostRuntime) -> anyhow::Result<Request> {
     ) else {
         return Err(anyhow!("{USAGE}"));
     };
-    let Some(kind) = kind_of(kind.as_str()) else {
-        return Err(anyhow!("{USAGE}"));
-    };
-    match (members.parse::<usize>(), blocks.parse::<usize>()) {
-        (Ok(members), Ok(blocks)) => Ok(Request {
-            kind,
-            members,
-            blocks,
-        }),
-        _ => Err(anyhow!("{USAGE}")),
-    }
+    Ok(Request {
+        kind: kind.parse().context(USAGE)?,
+        members: members.parse().context(USAGE)?,
+        blocks: blocks.parse().context(USAGE)?,
+    })
 }
 
 // Tells what one slot holds.
 fn tell_slot(
     rt: &HostRuntime,
     store: &mut MemoryStore,
-    at: Address,
     slot: usize,
+    at: Address,
 ) -> anyhow::Result<()> {
     let mut bytes = [0u8; BLOCK_BYTES];
-    if store.read(at, &mut bytes).is_err() {
-        return Err(anyhow!("a slot cannot be read"));
-    }
+    store.read(at, &mut bytes).context("a slot cannot be read")?;
     let found = Record::decode(&bytes);
     rt.println(SlotLine { slot, found })?;
     Ok(())
@@ -93,7 +72,7 @@ fn tell_slots(rt: &HostRuntime, store: &mut MemoryStore) -> anyhow::Result<()> {
             member: slot % members,
             block: slot / members,
         };
-        tell_slot(rt, store, at, slot)?;
+        tell_slot(rt, store, slot, at)?;
     }
     Ok(())
 }
@@ -108,49 +87,46 @@ fn tell_ring(rt: &HostRuntime, store: MemoryStore) -> anyhow::Result<()> {
         }
         Err(_) => return Err(anyhow!("the ring cannot be read")),
     }
-    let Ok(found) = ring.standing_record() else {
-        return Err(anyhow!("the ring is off"));
-    };
+    let found = ring.standing_record().ok().context("the ring is off")?;
     let mut store = ring.into_store();
     tell_slots(rt, &mut store)?;
-    rt.println(RingLine { found })?;
+    match found {
+        Some(record) => println!(rt; "stands {record}")?,
+        None => rt.println("no record")?,
+    }
     Ok(())
 }
 
 fn tell_flag(rt: &HostRuntime, store: MemoryStore) -> anyhow::Result<()> {
     let mut flag = FlagLog::new(store);
-    if flag.power_on().is_err() {
-        return Err(anyhow!("the flag cannot be read"));
+    flag.power_on().ok().context("the flag cannot be read")?;
+    let found = flag.standing_record().ok().context("the flag is off")?;
+    match found {
+        Some(record) => rt.println(record)?,
+        None => rt.println("no record")?,
     }
-    let Ok(found) = flag.standing_record() else {
-        return Err(anyhow!("the flag is off"));
-    };
-    rt.println(FlagLine { found })?;
     Ok(())
 }
 
 fn run(rt: &HostRuntime) -> anyhow::Result<()> {
-    let request = asked(rt)?;
+    let Request {
+        kind,
+        members,
+        blocks,
+    } = asked(rt)?;
     let mut bytes = Vec::new(rt.alloc());
-    let _ = rt.stdin().read_to_end(&mut bytes)?;
-    let members = request.members;
-    let blocks = request.blocks;
+    rt.stdin().read_to_end(&mut bytes)?;
     let Ok(store) = MemoryStore::new(members, blocks, bytes) else {
         println!(rt; "refused 2 {members} {blocks}")?;
         return Ok(());
     };
-    match request.kind {
-        Kind::Ring => tell_ring(rt, store),
-        Kind::Flag => tell_flag(rt, store),
+    match kind {
+        LogKind::Ring => tell_ring(rt, store),
+        LogKind::Flag => tell_flag(rt, store),
     }
 }
 
 fn main(rt: HostRuntime) -> ExitCode {
-    match run(&rt) {
-        Ok(()) => ExitCode::SUCCESS,
-        Err(e) => {
-            let _ = rt.eprintln(&e);
-            ExitCode::FAILURE
-        }
-    }
+    let outcome = run(&rt);
+    end(&rt, outcome)
 }

@@ -9,7 +9,7 @@ use record::form::Record;
 use ring_log::ring::RingLog;
 use std::fmt;
 
-/// What a command is answered with.
+/// What an accepted command is answered with.
 #[derive(Clone, Copy)]
 pub enum Answer {
     Done,
@@ -17,118 +17,51 @@ pub enum Answer {
     Next(Option<u32>),
     Ring(Option<Record>),
     Flag(Option<FlagRecord>),
-    Refused(LogRefusal),
+}
+
+/// Why a command was refused.
+#[derive(Clone, Copy)]
+pub struct Refused(LogRefusal);
+
+impl From<LogRefusal> for Refused {
+    fn from(refusal: LogRefusal) -> Refused {
+        Refused(refusal)
+    }
 }
 
 /// A log that tells its record.
 pub trait Shows {
-    fn show(&self) -> Answer;
+    fn show(&self) -> Result<Answer, LogRefusal>;
 }
 
 impl<S: MemberStore> Shows for RingLog<S> {
-    fn show(&self) -> Answer {
-        match self.standing_record() {
-            Ok(found) => Answer::Ring(found),
-            Err(e) => Answer::Refused(e),
-        }
+    fn show(&self) -> Result<Answer, LogRefusal> {
+        self.standing_record().map(Answer::Ring)
     }
 }
 
 impl<S: MemberStore> Shows for FlagLog<S> {
-    fn show(&self) -> Answer {
-        match self.standing_record() {
-            Ok(found) => Answer::Flag(found),
-            Err(e) => Answer::Refused(e),
-        }
-    }
-}
-
-fn done(outcome: Result<(), LogRefusal>) -> Answer {
-    match outcome {
-        Ok(()) => Answer::Done,
-        Err(e) => Answer::Refused(e),
-    }
-}
-
-fn truth(outcome: Result<bool, LogRefusal>) -> Answer {
-    match outcome {
-        Ok(b) => Answer::Truth(b),
-        Err(e) => Answer::Refused(e),
-    }
-}
-
-fn next(outcome: Result<Option<u32>, LogRefusal>) -> Answer {
-    match outcome {
-        Ok(n) => Answer::Next(n),
-        Err(e) => Answer::Refused(e),
+    fn show(&self) -> Result<Answer, LogRefusal> {
+        self.standing_record().map(Answer::Flag)
     }
 }
 
 /// Makes the call. A cut is done at the next power-on, by the fuse.
-pub fn perform<L: IntentLog + Shows>(log: &mut L, command: &Command) -> Answer {
-    match command {
+pub fn perform<L: IntentLog + Shows>(log: &mut L, command: &Command) -> Result<Answer, Refused> {
+    Ok(match command {
         Command::Cut(_) => Answer::Done,
-        Command::PowerOn => done(log.power_on()),
-        Command::Mark(list) => done(log.mark(list.as_slice())),
-        Command::Fresh(list) => done(log.fresh(list.as_slice())),
-        Command::Fits(list) => truth(log.fits(list.as_slice())),
-        Command::Clear => done(log.clear()),
-        Command::Blank => done(log.blank()),
-        Command::IsNamed(stripe) => truth(log.is_named(*stripe)),
-        Command::NextNamed(at) => next(log.next_named(*at)),
-        Command::Stands => truth(log.stands()),
-        Command::Spent => truth(log.spent()),
-        Command::Show => log.show(),
-    }
-}
-
-fn write_ring<W: fmt::Write>(f: &mut fmt::Formatter<W>, found: Option<Record>) -> fmt::Result {
-    let Some(record) = found else {
-        return f.write_str("no record");
-    };
-    let version = record.version();
-    write!(f, "version {version} stripes")?;
-    let stripes = record.stripes();
-    for stripe in stripes.as_slice() {
-        write!(f, " {stripe}")?;
-    }
-    Ok(())
-}
-
-fn write_flag<W: fmt::Write>(f: &mut fmt::Formatter<W>, found: Option<FlagRecord>) -> fmt::Result {
-    match found {
-        Some(FlagRecord::NamesNothing) => f.write_str("names nothing"),
-        Some(FlagRecord::NamesEvery) => f.write_str("names every stripe"),
-        None => f.write_str("no record"),
-    }
-}
-
-// What a refusal tells beyond number and layer.
-fn write_detail<W: fmt::Write>(f: &mut fmt::Formatter<W>, refusal: LogRefusal) -> fmt::Result {
-    if let Some(place) = refusal.place() {
-        let member = place.member;
-        let block = place.block;
-        return write!(f, " {member} {block}");
-    }
-    match refusal {
-        LogRefusal::Store(Refusal::NoMember(n)) => write!(f, " {n}"),
-        LogRefusal::Store(Refusal::NoBlock(n)) => write!(f, " {n}"),
-        LogRefusal::Store(Refusal::WrongLength(n)) => write!(f, " {n}"),
-        LogRefusal::TooSmall(members, blocks) => write!(f, " {members} {blocks}"),
-        LogRefusal::WrongList(len) => write!(f, " {len}"),
-        LogRefusal::DoesNotFit(len) => write!(f, " {len}"),
-        _ => Ok(()),
-    }
-}
-
-fn write_refusal<W: fmt::Write>(f: &mut fmt::Formatter<W>, refusal: LogRefusal) -> fmt::Result {
-    let number = refusal.number();
-    let layer = match refusal.layer() {
-        Layer::LogStore => "log-store",
-        Layer::Log => "log",
-    };
-    write!(f, "refused {number} {layer}")?;
-    write_detail(f, refusal)
+        Command::PowerOn => log.power_on().map(|()| Answer::Done)?,
+        Command::Mark(list) => log.mark(list.as_slice()).map(|()| Answer::Done)?,
+        Command::Fresh(list) => log.fresh(list.as_slice()).map(|()| Answer::Done)?,
+        Command::Fits(list) => Answer::Truth(log.fits(list.as_slice())?),
+        Command::Clear => log.clear().map(|()| Answer::Done)?,
+        Command::Blank => log.blank().map(|()| Answer::Done)?,
+        Command::IsNamed(stripe) => Answer::Truth(log.is_named(*stripe)?),
+        Command::NextNamed(at) => Answer::Next(log.next_named(*at)?),
+        Command::Stands => Answer::Truth(log.stands()?),
+        Command::Spent => Answer::Truth(log.spent()?),
+        Command::Show => log.show()?,
+    })
 }
 
 impl fmt::Display for Answer {
@@ -139,9 +72,31 @@ impl fmt::Display for Answer {
             Answer::Truth(false) => f.write_str("no"),
             Answer::Next(Some(stripe)) => write!(f, "{stripe}"),
             Answer::Next(None) => f.write_str("none"),
-            Answer::Ring(found) => write_ring(f, found),
-            Answer::Flag(found) => write_flag(f, found),
-            Answer::Refused(refusal) => write_refusal(f, refusal),
+            Answer::Ring(Some(record)) => write!(f, "{record}"),
+            Answer::Flag(Some(record)) => write!(f, "{record}"),
+            Answer::Ring(None) | Answer::Flag(None) => f.write_str("no record"),
+        }
+    }
+}
+
+impl fmt::Display for Refused {
+    fn fmt<W: fmt::Write>(&self, f: &mut fmt::Formatter<W>) -> fmt::Result {
+        let number = self.0.number();
+        let layer = match self.0.layer() {
+            Layer::LogStore => "log-store",
+            Layer::Log => "log",
+        };
+        write!(f, "refused {number} {layer}")?;
+        if let Some(place) = self.0.place() {
+            return write!(f, " {} {}", place.member, place.block);
+        }
+        match self.0 {
+            LogRefusal::Store(
+                Refusal::NoMember(n) | Refusal::NoBlock(n) | Refusal::WrongLength(n),
+            ) => write!(f, " {n}"),
+            LogRefusal::TooSmall(members, blocks) => write!(f, " {members} {blocks}"),
+            LogRefusal::WrongList(len) | LogRefusal::DoesNotFit(len) => write!(f, " {len}"),
+            _ => Ok(()),
         }
     }
 }

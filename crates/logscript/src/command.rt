@@ -1,5 +1,6 @@
 // The commands of a script: each line is a word and numbers.
-use std::alloc::{AllocError, Global};
+use program_parts::line_error::{LineError, NoForm};
+use std::alloc::Global;
 
 /// A call of a log, or the setting of the fuse at the next power-on.
 #[derive(Drop)]
@@ -19,54 +20,52 @@ pub enum Command {
 }
 
 // A command without numbers.
-fn plain(word: &str) -> Option<Command> {
+fn plain(word: &str) -> Result<Command, NoForm> {
     match word {
-        "power-on" => Some(Command::PowerOn),
-        "clear" => Some(Command::Clear),
-        "blank" => Some(Command::Blank),
-        "stands" => Some(Command::Stands),
-        "spent" => Some(Command::Spent),
-        "show" => Some(Command::Show),
-        _ => None,
+        "power-on" => Ok(Command::PowerOn),
+        "clear" => Ok(Command::Clear),
+        "blank" => Ok(Command::Blank),
+        "stands" => Ok(Command::Stands),
+        "spent" => Ok(Command::Spent),
+        "show" => Ok(Command::Show),
+        _ => Err(NoForm),
     }
 }
 
 // A command with one number.
-fn with_number(word: &str, number: u32) -> Option<Command> {
+fn with_number(word: &str, number: u32) -> Result<Command, NoForm> {
     match word {
-        "cut" => Some(Command::Cut(number as usize)),
-        "named" => Some(Command::IsNamed(number)),
-        "next" => Some(Command::NextNamed(number)),
-        _ => None,
+        "cut" => Ok(Command::Cut(number as usize)),
+        "named" => Ok(Command::IsNamed(number)),
+        "next" => Ok(Command::NextNamed(number)),
+        _ => Err(NoForm),
     }
 }
 
 // The command of a word and the numbers behind it.
-fn form(word: &str, numbers: Vec<u32>) -> Option<Command> {
+fn form(word: &str, numbers: Vec<u32>) -> Result<Command, NoForm> {
     match word {
-        "mark" => Some(Command::Mark(numbers)),
-        "fresh" => Some(Command::Fresh(numbers)),
-        "fits" => Some(Command::Fits(numbers)),
+        "mark" => Ok(Command::Mark(numbers)),
+        "fresh" => Ok(Command::Fresh(numbers)),
+        "fits" => Ok(Command::Fits(numbers)),
         _ => match numbers.as_slice() {
             [] => plain(word),
             [number] => with_number(word, *number),
-            _ => None,
+            _ => Err(NoForm),
         },
     }
 }
 
-/// Reads a line; none where it is no command.
-pub fn read_command(heap: Global, line: &str) -> Result<Option<Command>, AllocError> {
-    let mut words = line.split_whitespace();
-    let Some(word) = words.next() else {
-        return Ok(None);
-    };
-    let mut numbers = Vec::new(heap);
-    for number in words {
-        let Ok(n) = number.parse::<u32>() else {
-            return Ok(None);
-        };
-        numbers.push(n)?;
+impl Command {
+    /// Reads a line.
+    pub fn parse(heap: Global, line: &str) -> Result<Command, LineError> {
+        let mut words = line.split_whitespace();
+        let word = words.next().ok_or(NoForm)?;
+        let mut numbers = Vec::new(heap);
+        for number in words {
+            let number = number.parse::<u32>().ok().ok_or(NoForm)?;
+            numbers.push(number)?;
+        }
+        Ok(form(word, numbers)?)
     }
-    Ok(form(word, numbers))
 }

@@ -6,24 +6,26 @@ mod command;
 mod script;
 
 use answer::{Shows, perform};
-use anyhow::anyhow;
+use anyhow::Context;
 use command::Command;
 use flag_log::flag::FlagLog;
 use fuse_series::FuseSeries;
 use intent_log::IntentLog;
 use member_store::MemberStore;
-use memory_store::memory::MemoryStore;
+use program_parts::ending::end;
+use program_parts::input::read_input;
+use program_parts::line_error::LineError;
+use program_parts::log_kind::LogKind;
 use ring_log::ring::RingLog;
-use script::{Kind, Script, start};
+use script::{Head, Script};
 use std::alloc::Global;
 use std::fmt::Write;
-use std::io::Read;
 use std::mem;
 use std::process::ExitCode;
 use write_buffer::buffer::WriteBuffer;
 
 /// The most bytes of a script: 256 KiB.
-const MOST_BYTES: usize = 262_144;
+const MOST_BYTES: u32 = 262_144;
 
 fn answer_all<L: IntentLog + Shows>(
     log: &mut L,
@@ -31,101 +33,93 @@ fn answer_all<L: IntentLog + Shows>(
     out: &mut String,
 ) -> anyhow::Result<()> {
     for command in commands {
-        let text = perform(log, command);
-        if writeln!(out, "{text}").is_err() {
-            return Err(anyhow!("no memory for the answers"));
+        match perform(log, command) {
+            Ok(answer) => writeln!(out, "{answer}"),
+            Err(refusal) => writeln!(out, "{refusal}"),
         }
+        .context("no memory for the answers")?;
     }
     Ok(())
 }
 
 fn answer_on<S: MemberStore + Drop>(
-    kind: Kind,
+    kind: LogKind,
     store: S,
     commands: &[Command],
     out: &mut String,
 ) -> anyhow::Result<()> {
     match kind {
-        Kind::Ring => answer_all(&mut RingLog::new(store), commands, out),
-        Kind::Flag => answer_all(&mut FlagLog::new(store), commands, out),
+        LogKind::Ring => answer_all(&mut RingLog::new(store), commands, out),
+        LogKind::Flag => answer_all(&mut FlagLog::new(store), commands, out),
     }
 }
 
 fn run_script(heap: Global, script: Script, out: &mut String) -> anyhow::Result<()> {
-    let kind = script.kind;
-    let buffered = script.buffered;
-    let commands = script.commands;
-    let mut settings = script.settings;
+    let Script {
+        kind,
+        buffered,
+        memory,
+        commands,
+        mut settings,
+        ..
+    } = script;
     settings.reverse();
-    let Ok(memory) = MemoryStore::new(script.members, script.blocks, script.image) else {
-        return Err(anyhow!("no memory store"));
-    };
     let fuse = FuseSeries::new(memory, settings);
     if !buffered {
         return answer_on(kind, fuse, commands.as_slice(), out);
     }
-    let Ok(buffer) = WriteBuffer::new(heap, fuse) else {
-        return Err(anyhow!("no memory for the write buffer"));
-    };
+    let buffer = WriteBuffer::new(heap, fuse)
+        .ok()
+        .context("no memory for the write buffer")?;
     answer_on(kind, buffer, commands.as_slice(), out)
 }
 
 // Ends the answers at a line of no form.
 fn write_bad(out: &mut String, number: usize) -> anyhow::Result<()> {
-    if writeln!(out, "bad {number}").is_err() {
-        return Err(anyhow!("no memory for the answers"));
-    }
-    Ok(())
+    writeln!(out, "bad {number}").context("no memory for the answers")
 }
 
 // The answers to all scripts of a text, which begin at each line that names a log.
 fn answers(heap: Global, text: &str) -> anyhow::Result<String> {
     let mut out = String::new(heap);
     let mut lines = text.lines();
-    let Some(mut script) = start(heap, lines.next().unwrap_or(""))? else {
+    let Ok(head) = lines.next().unwrap_or("").parse::<Head>() else {
         write_bad(&mut out, 1)?;
         return Ok(out);
     };
-    let mut number = 1usize;
-    for line in lines {
-        number = number.saturating_add(1);
-        if let Some(next) = start(heap, line)? {
+    let mut script = Script::new(heap, head)?;
+    for (number, line) in (2usize..).zip(lines) {
+        if let Ok(head) = line.parse::<Head>() {
+            let next = Script::new(heap, head)?;
             run_script(heap, mem::replace(&mut script, next), &mut out)?;
-        } else if !script.take_line(heap, line)? {
-            run_script(heap, script, &mut out)?;
-            write_bad(&mut out, number)?;
-            return Ok(out);
+            continue;
+        }
+        match script.take_line(heap, line) {
+            Ok(()) => {}
+            Err(LineError::NoForm) => {
+                run_script(heap, script, &mut out)?;
+                write_bad(&mut out, number)?;
+                return Ok(out);
+            }
+            Err(e) => return Err(e.into()),
         }
     }
     run_script(heap, script, &mut out)?;
     Ok(out)
 }
 
-fn read_input(rt: &HostRuntime) -> anyhow::Result<Vec<u8>> {
-    let mut bytes = Vec::new(rt.alloc());
-    let mut source = rt.stdin().take(262_145);
-    source.read_to_end(&mut bytes)?;
-    if bytes.len() > MOST_BYTES {
-        return Err(anyhow!("the script has more than 256 KiB"));
-    }
-    Ok(bytes)
-}
-
 fn run(rt: &HostRuntime) -> anyhow::Result<()> {
-    let bytes = read_input(rt)?;
-    let Ok(text) = std::str::from_utf8(bytes.as_slice()) else {
-        return Err(anyhow!("the script is no text"));
-    };
+    let bytes = read_input(rt.alloc(), rt.stdin(), MOST_BYTES)?.context(
+        "the script has more than 256 KiB",
+    )?;
+    let text = std::str::from_utf8(bytes.as_slice())
+        .ok()
+        .context("the script is no text")?;
     rt.print(answers(rt.alloc(), text)?)?;
     Ok(())
 }
 
 fn main(rt: HostRuntime) -> ExitCode {
-    match run(&rt) {
-        Ok(()) => ExitCode::SUCCESS,
-        Err(e) => {
-            let _ = rt.eprintln(&e);
-            ExitCode::FAILURE
-        }
-    }
+    let outcome = run(&rt);
+    end(&rt, outcome)
 }

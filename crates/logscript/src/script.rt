@@ -1,26 +1,37 @@
 // A script: which log, what stands in its store at first, and the commands.
-use super::command::{Command, read_command};
-use member_store::BLOCK_BYTES;
+ghost use Rattle.std.specs.Prelude.{◌<◌, ◌≤◌, IfOk};
+
+use super::command::Command;
+use block_address::Address;
+use member_store::{BLOCK_BYTES, MemberStore};
+use memory_store::memory::MemoryStore;
+use program_parts::line_error::{LineError, NoForm};
+use program_parts::log_kind::LogKind;
+use program_parts::zeros::zeros;
 use std::alloc::{AllocError, Global};
+use std::str::{FromStr, SplitWhitespace};
 
 /// The most members, and the most blocks of one.
-pub const MOST_COUNT: usize = 64;
+const MOST_COUNT: usize = 64;
 
-/// The kinds of log.
+/// The first line of a script: `ring MEMBERS BLOCKS` or `flag MEMBERS BLOCKS`.
 #[derive(Clone, Copy)]
-pub enum Kind {
-    Ring,
-    Flag,
+pub struct Head {
+    kind: LogKind,
+    members: usize,
+    blocks: usize,
+    ghost some_members: { 0 < members },
+    ghost some_blocks: { 0 < blocks },
+    ghost few_members: { members ≤ 64 },
+    ghost few_blocks: { blocks ≤ 64 },
 }
 
 #[derive(Drop)]
 pub struct Script {
-    pub kind: Kind,
-    pub members: usize,
-    pub blocks: usize,
+    pub kind: LogKind,
     pub buffered: bool,
-    /// The bytes of the log's store, member after member.
-    pub image: Vec<u8>,
+    /// The log's store.
+    pub memory: MemoryStore,
     pub commands: Vec<Command>,
     /// What each power-on sets the fuse to, in order.
     pub settings: Vec<Option<usize>>,
@@ -28,111 +39,79 @@ pub struct Script {
     cut: Option<usize>,
 }
 
-fn kind_of(word: &str) -> Option<Kind> {
-    match word {
-        "ring" => Some(Kind::Ring),
-        "flag" => Some(Kind::Flag),
-        _ => None,
-    }
-}
+impl FromStr for Head {
+    type Err = NoForm;
 
-fn count(word: Option<&str>) -> Option<usize> {
-    match word?.parse::<usize>() {
-        Ok(n) if n >= 1 && n <= MOST_COUNT => Some(n),
-        _ => None,
-    }
-}
-
-/// Reads the first line: `ring MEMBERS BLOCKS` or `flag MEMBERS BLOCKS`.
-pub fn start(heap: Global, line: &str) -> Result<Option<Script>, AllocError> {
-    let mut words = line.split_whitespace();
-    let kind = kind_of(words.next().unwrap_or(""));
-    let members = count(words.next());
-    let blocks = count(words.next());
-    let (Some(kind), Some(members), Some(blocks), None) = (kind, members, blocks, words.next())
-    else {
-        return Ok(None);
-    };
-    Ok(Some(Script {
-        kind,
-        members,
-        blocks,
-        buffered: false,
-        image: vec![in heap; 0u8; members.saturating_mul(blocks).saturating_mul(BLOCK_BYTES)]?,
-        commands: Vec::new(heap),
-        settings: Vec::new(heap),
-        cut: None,
-    }))
-}
-
-fn digit(c: u8) -> Option<u8> {
-    match c {
-        b'0'..=b'9' => Some(c - b'0'),
-        b'a'..=b'f' => Some(c - b'a' + 10),
-        b'A'..=b'F' => Some(c - b'A' + 10),
-        _ => None,
-    }
-}
-
-// The bytes that two digits each give.
-fn bytes_of(heap: Global, hex: &str) -> Result<Option<Vec<u8>>, AllocError> {
-    let mut bytes = Vec::new(heap);
-    let mut high = None;
-    for c in hex.bytes() {
-        let Some(d) = digit(c) else {
-            return Ok(None);
-        };
-        match high {
-            None => high = Some(d),
-            Some(h) => {
-                bytes.push((h & 15) << 4 | d)?;
-                high = None;
-            }
+    fn from_str(line: &str) -> Result<Head, NoForm> {
+        let mut words = line.split_whitespace();
+        let kind = words.next().ok_or(NoForm)?.parse()?;
+        let members = count(words.next())?;
+        let blocks = count(words.next())?;
+        if words.next().is_some() {
+            return Err(NoForm);
         }
+        Ok(Head {
+            kind,
+            members,
+            blocks,
+        })
     }
-    if high.is_some() || bytes.len() > BLOCK_BYTES {
-        return Ok(None);
+}
+
+fn count(word: Option<&str>) -> Result<usize, NoForm>
+    ensures { IfOk result (λ n. (0 < n) × (n ≤ 64)) }
+{
+    match word.ok_or(NoForm)?.parse() {
+        Ok(n) if n >= 1 && n <= MOST_COUNT => Ok(n),
+        _ => Err(NoForm),
     }
-    Ok(Some(bytes))
+}
+
+// The byte that two digits give.
+fn byte_of(digits: [u8; 2]) -> Result<u8, NoForm> {
+    let [high, low] = digits.map(|digit| char::from(digit).to_digit(16));
+    let (high, low) = (high.ok_or(NoForm)?, low.ok_or(NoForm)?);
+    Ok((high << 4 | low) as u8)
+}
+
+// The block that begins with the bytes that two digits each give, and has zeros behind them.
+fn block_of(hex: &str) -> Result<[u8; BLOCK_BYTES], NoForm> {
+    let (pairs, rest) = hex.as_bytes().as_chunks::<2>();
+    if !rest.is_empty() || pairs.len() > BLOCK_BYTES {
+        return Err(NoForm);
+    }
+    let mut block = [0u8; BLOCK_BYTES];
+    for (byte, digits) in block.iter_mut().zip(pairs) {
+        *byte = byte_of(*digits)?;
+    }
+    Ok(block)
 }
 
 impl Script {
-    // Puts bytes to the front of a slot's block, zeros behind them.
-    fn put(&mut self, slot: usize, bytes: &[u8]) {
-        let member = slot % self.members.max(1);
-        let block = slot / self.members.max(1);
-        let start = member
-            .saturating_mul(self.blocks)
-            .saturating_add(block)
-            .saturating_mul(BLOCK_BYTES);
-        for i in 0..BLOCK_BYTES {
-            if let Some(place) = self.image.get_mut(start.saturating_add(i)) {
-                *place = bytes.get(i).copied().unwrap_or(0);
-            }
-        }
+    /// A script that begins so, with no commands yet.
+    pub fn new(heap: Global, head: Head) -> Result<Script, AllocError> {
+        Ok(Script {
+            kind: head.kind,
+            buffered: false,
+            memory: zeros(heap, head.members, head.blocks)?,
+            commands: Vec::new(heap),
+            settings: Vec::new(heap),
+            cut: None,
+        })
     }
 
-    // `SLOT HEX`; false where the line has another form.
-    fn raw(
-        &mut self,
-        heap: Global,
-        slot: Option<&str>,
-        hex: Option<&str>,
-    ) -> Result<bool, AllocError> {
-        let (Some(slot), Some(hex)) = (slot, hex) else {
-            return Ok(false);
+    // `SLOT HEX`: bytes for the front of a slot's block.
+    fn take_raw(&mut self, mut words: SplitWhitespace) -> Result<(), NoForm> {
+        let (Some(slot), Some(hex), None) = (words.next(), words.next(), words.next()) else {
+            return Err(NoForm);
         };
-        let Ok(slot) = slot.parse::<usize>() else {
-            return Ok(false);
+        let slot = slot.parse::<usize>().ok().ok_or(NoForm)?;
+        let members = self.memory.members().max(1);
+        let at = Address {
+            member: slot % members,
+            block: slot / members,
         };
-        if slot >= self.members.saturating_mul(self.blocks) {
-            return Ok(false);
-        }
-        let Some(bytes) = bytes_of(heap, hex)? else {
-            return Ok(false);
-        };
-        self.put(slot, bytes.as_slice());
-        Ok(true)
+        self.memory.store(at, &block_of(hex)?).ok().ok_or(NoForm)
     }
 
     // Keeps a command, and at a power-on what it sets the fuse to.
@@ -146,29 +125,16 @@ impl Script {
         Ok(())
     }
 
-    /// Reads a line after the first: before the commands `buffer` and `raw SLOT HEX`; false where it has no form of a line.
-    pub fn take_line(&mut self, heap: Global, line: &str) -> Result<bool, AllocError> {
+    /// Takes a line after the first: `buffer` and `raw SLOT HEX` stand before the commands.
+    pub fn take_line(&mut self, heap: Global, line: &str) -> Result<(), LineError> {
         let mut words = line.split_whitespace();
         match words.next() {
             Some("buffer") if self.commands.is_empty() && words.next().is_none() => {
                 self.buffered = true;
-                Ok(true)
             }
-            Some("raw") if self.commands.is_empty() => {
-                let slot = words.next();
-                let hex = words.next();
-                if words.next().is_some() {
-                    return Ok(false);
-                }
-                self.raw(heap, slot, hex)
-            }
-            _ => match read_command(heap, line)? {
-                Some(command) => {
-                    self.push(command)?;
-                    Ok(true)
-                }
-                None => Ok(false),
-            },
+            Some("raw") if self.commands.is_empty() => self.take_raw(words)?,
+            _ => self.push(Command::parse(heap, line)?)?,
         }
+        Ok(())
     }
 }

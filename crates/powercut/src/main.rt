@@ -3,11 +3,12 @@
 
 mod table;
 
-use anyhow::anyhow;
+use anyhow::{Context, anyhow};
 use cut_script::{BLOCKS, MEMBERS};
 use fuse::Fuse;
-use member_store::{BLOCK_BYTES, MemberStore};
-use memory_store::memory::MemoryStore;
+use member_store::MemberStore;
+use program_parts::ending::end;
+use program_parts::zeros::zeros;
 use std::alloc::Global;
 use std::env;
 use std::process::ExitCode;
@@ -21,45 +22,31 @@ const USAGE: &str =
 fn setting(rt: &HostRuntime) -> anyhow::Result<usize> {
     let mut words = env::args(rt)?;
     let _ = words.next();
-    match (words.next(), words.next()) {
-        (Some(word), None) => match word.parse::<usize>() {
-            Ok(n) => Ok(n),
-            Err(_) => Err(anyhow!("{USAGE}")),
-        },
-        _ => Err(anyhow!("{USAGE}")),
-    }
+    let (Some(word), None) = (words.next(), words.next()) else {
+        return Err(anyhow!("{USAGE}"));
+    };
+    word.parse::<usize>().context(USAGE)
 }
 
 // Runs the script on members of zeros, of which `left` stores and barriers reach them.
 fn cut(heap: Global, left: usize) -> anyhow::Result<Report> {
-    let bytes = vec![in heap; 0u8; MEMBERS * BLOCKS * BLOCK_BYTES]?;
-    let Ok(memory) = MemoryStore::new(MEMBERS, BLOCKS, bytes) else {
-        return Err(anyhow!("no memory store"));
-    };
-    let Ok(buffer) = WriteBuffer::new(heap, Fuse::new(memory, Some(left))) else {
-        return Err(anyhow!("no memory for the write buffer"));
-    };
-    let mut store = buffer;
+    let memory = zeros(heap, MEMBERS, BLOCKS)?;
+    let mut store = WriteBuffer::new(heap, Fuse::new(memory, Some(left)))
+        .ok()
+        .context("no memory for the write buffer")?;
     let progress = cut_script::run(&mut store);
     store.power_on();
-    match cut_script::standing(&mut store) {
-        Ok(stands) => Ok(Report { progress, stands }),
-        Err(_) => Err(anyhow!("a read was refused")),
-    }
+    let stands = cut_script::standing(&mut store).context("a read was refused")?;
+    Ok(Report { progress, stands })
 }
 
 fn run(rt: &HostRuntime) -> anyhow::Result<()> {
     let report = cut(rt.alloc(), setting(rt)?)?;
-    println!(rt; "{report}")?;
+    rt.println(report)?;
     Ok(())
 }
 
 fn main(rt: HostRuntime) -> ExitCode {
-    match run(&rt) {
-        Ok(()) => ExitCode::SUCCESS,
-        Err(e) => {
-            let _ = rt.eprintln(&e);
-            ExitCode::FAILURE
-        }
-    }
+    let outcome = run(&rt);
+    end(&rt, outcome)
 }

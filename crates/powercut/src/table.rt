@@ -1,8 +1,6 @@
 // What the program tells: a line for each block, and which stores survived.
-use cut_script::{
-    BLOCKS, FIRST_BARRIER, MEMBERS, Progress, SECOND_BARRIER, STORES, last_store, place_of,
-};
 use block_address::Address;
+use cut_script::{FIRST_BARRIER, MEMBERS, Progress, SECOND_BARRIER, STORES, last_store, place_of};
 use std::fmt;
 
 /// The array of blocks after the cut.
@@ -28,10 +26,9 @@ fn write_stores<W: fmt::Write>(
     after: u8,
     to: u8,
 ) -> fmt::Result {
-    for number in after.saturating_add(1)..to.saturating_add(1) {
-        if place_of(number) == place {
-            write!(f, " {number}")?;
-        }
+    let numbers = after.saturating_add(1)..to.saturating_add(1);
+    for number in numbers.filter(|number| place_of(*number) == place) {
+        write!(f, " {number}")?;
     }
     Ok(())
 }
@@ -50,12 +47,8 @@ impl fmt::Display for Row {
 
 // Writes the numbers of the stores whose bytes stand.
 fn write_survivors<W: fmt::Write>(f: &mut fmt::Formatter<W>, report: &Report) -> fmt::Result {
-    for number in 1..STORES + 1 {
-        for stands in report.stands {
-            if stands == number {
-                write!(f, " {number}")?;
-            }
-        }
+    for number in (1..=STORES).filter(|number| report.stands.contains(number)) {
+        write!(f, " {number}")?;
     }
     Ok(())
 }
@@ -76,14 +69,14 @@ impl fmt::Display for Report {
             "{STORES} stores, with barriers after {FIRST_BARRIER} and {SECOND_BARRIER}."
         )?;
         write_cut(f, self.progress)?;
-        for number in 0..MEMBERS * BLOCKS {
+        for (number, stands) in self.stands.iter().enumerate() {
             let row = Row {
                 place: Address {
                     member: number % MEMBERS,
                     block: number / MEMBERS,
                 },
                 progress: self.progress,
-                stands: self.stands[number],
+                stands: *stands,
             };
             writeln!(f, "{row}")?;
         }

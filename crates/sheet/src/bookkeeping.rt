@@ -1,12 +1,21 @@
 // Feeds the book with calls and their answers.
+use array_model::refusal::ArrayRefusal;
 use array_run::answer::Answer;
 use array_run::call::Call;
+use intent_log::refusal::LogRefusal;
+use member_store::refusal::Refusal;
 use sheet_book::block_of;
 use sheet_book::book::Book;
 use std::alloc::AllocError;
 
-// The number of a refusal by a cut.
-const POWER_CUT: u8 = 1;
+// Was the call refused because power was gone?
+fn is_power_cut(refusal: &ArrayRefusal) -> bool {
+    matches!(
+        refusal,
+        ArrayRefusal::Members(Refusal::PowerOff(_))
+            | ArrayRefusal::Log(LogRefusal::Off | LogRefusal::Store(Refusal::PowerOff(_)))
+    )
+}
 
 fn note_write(
     book: &mut Book,
@@ -26,17 +35,15 @@ fn note_format(book: &mut Book, answer: &Answer) -> Result<(), AllocError> {
             book.format();
             Ok(())
         }
-        Answer::Plain(Err(e)) if e.number() == POWER_CUT => book.cut_format(),
+        Answer::Plain(Err(e)) if is_power_cut(e) => book.cut_format(),
         _ => Ok(()),
     }
 }
 
 // Flush and close.
 fn note_flush(book: &mut Book, answer: &Answer) {
-    match answer {
-        Answer::Flush(Ok(_)) => book.flush(),
-        Answer::Plain(Ok(())) => book.flush(),
-        _ => {}
+    if matches!(answer, Answer::Flush(Ok(_)) | Answer::Plain(Ok(()))) {
+        book.flush();
     }
 }
 
@@ -45,11 +52,7 @@ fn note(book: &mut Book, call: &Call, answer: &Answer) -> Result<(), AllocError>
     match call {
         Call::Write { block, bytes } => note_write(book, *block, bytes, answer),
         Call::Format => note_format(book, answer),
-        Call::Flush => {
-            note_flush(book, answer);
-            Ok(())
-        }
-        Call::Close => {
+        Call::Flush | Call::Close => {
             note_flush(book, answer);
             Ok(())
         }
@@ -67,7 +70,7 @@ pub fn note_all(book: &mut Book, calls: &[Call], answers: &[Answer]) -> Result<(
 
 // One block after a finish: does it hold what the book allows? What it holds is its base from now on.
 fn settle_block(book: &mut Book, call: &Call, answer: &Answer) -> bool {
-    let (Call::Read { block, length: _ }, Answer::Read(Ok(bytes))) = (call, answer) else {
+    let (Call::Read { block, .. }, Answer::Read(Ok(bytes))) = (call, answer) else {
         return false;
     };
     let allowed = book.allows(*block, bytes.as_slice());

@@ -7,28 +7,15 @@ use crate::trial::{Script, Trial, try_out};
 use array::array::Array;
 use flag_log::flag::FlagLog;
 use geometry::layout::LeftSymmetric;
+use program_parts::log_kind::LogKind;
+use program_parts::side::Side;
 use ring_log::ring::RingLog;
 use std::alloc::Global;
-use std::fmt;
 
 /// The members of the log's store, and the blocks of each.
 const LOG_MEMBERS: usize = 1;
 
 const LOG_BLOCKS: usize = 8;
-
-/// The log of the array.
-#[derive(Clone, Copy)]
-pub enum LogKind {
-    Ring,
-    Flag,
-}
-
-/// The store that power is cut from.
-#[derive(Clone, Copy, PartialEq, Eq)]
-pub enum Side {
-    Members,
-    LogStore,
-}
 
 /// A cut: so many stores and barriers of that side are let through after a power-on.
 #[derive(Clone, Copy)]
@@ -44,34 +31,13 @@ pub struct Cuts {
     pub second: Option<Cut>,
 }
 
-impl fmt::Display for LogKind {
-    fn fmt<W: fmt::Write>(&self, f: &mut fmt::Formatter<W>) -> fmt::Result {
-        match *self {
-            LogKind::Ring => f.write_str("ring log"),
-            LogKind::Flag => f.write_str("flag log"),
-        }
-    }
-}
-
-impl Side {
-    pub fn name(self) -> &'static str {
-        match self {
-            Side::Members => "members",
-            Side::LogStore => "log's store",
-        }
-    }
-}
-
 impl Cut {
     // The setting of a side's fuse by this cut.
     fn setting(&self, side: Side) -> Option<usize>
         ensures here { self.now.side ≡ side → result ≡ Some self.now.let_through }
         ensures elsewhere { (self.now.side ≢ side) → result ≡ None }
     {
-        if self.side == side {
-            return Some(self.let_through);
-        }
-        None
+        (self.side == side).then_some(self.let_through)
     }
 }
 
@@ -90,10 +56,7 @@ impl Cuts {
     fn settings(&self, side: Side) -> Settings {
         Settings {
             load: self.first.setting(side),
-            resync: match self.second {
-                Some(cut) => cut.setting(side),
-                None => None,
-            },
+            resync: self.second.and_then(|cut| cut.setting(side)),
         }
     }
 }
@@ -101,8 +64,8 @@ impl Cuts {
 /// Runs a trial with these cuts.
 pub fn try_cuts(heap: Global, kind: LogKind, script: &Script, cuts: Cuts) -> anyhow::Result<Trial> {
     let members = new_disks(heap, MEMBERS, STRIPES, cuts.settings(Side::Members))?;
-    let below = new_disks(heap, LOG_MEMBERS, LOG_BLOCKS, cuts.settings(Side::LogStore))?;
-    let found = match kind {
+    let below = new_disks(heap, LOG_MEMBERS, LOG_BLOCKS, cuts.settings(Side::Log))?;
+    Ok(match kind {
         LogKind::Ring => try_out(
             heap,
             Array::new(members, RingLog::new(below), LeftSymmetric),
@@ -113,6 +76,5 @@ pub fn try_cuts(heap: Global, kind: LogKind, script: &Script, cuts: Cuts) -> any
             Array::new(members, FlagLog::new(below), LeftSymmetric),
             script,
         )?,
-    };
-    Ok(found)
+    })
 }

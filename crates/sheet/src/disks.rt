@@ -1,13 +1,13 @@
 // The disks below an array or a log: a write buffer over a fuse over memory, and a look at what they hold.
-ghost use Rattle.std.specs.Prelude.{◌≡◌, [], ◌∷◌, IfOk, None as Unset};
+ghost use Rattle.std.specs.Prelude.{◌≡◌, ◌*◌, ◌^◌, ◌<◌, [], ◌∷◌, IfOk, None as Unset};
 ghost use Rattle.memory_store.specs.Memory.{memory_means};
 ghost use Rattle.sheet_parity.specs.Right.{AllRight};
 
 use crate::load::STRIPES;
-use anyhow::anyhow;
+use anyhow::Context;
 use fuse_series::FuseSeries;
-use member_store::BLOCK_BYTES;
 use memory_store::memory::MemoryStore;
+use program_parts::zeros::zeros;
 use sheet_parity::wrong_stripes;
 use std::alloc::{AllocError, Global};
 use write_buffer::buffer::WriteBuffer;
@@ -35,17 +35,16 @@ pub fn new_disks(
     members: usize,
     blocks: usize,
     settings: Settings,
-) -> anyhow::Result<Disks> {
-    let length = members.saturating_mul(blocks).saturating_mul(BLOCK_BYTES);
-    let bytes = vec![in heap; 0u8; length]?;
-    let Ok(memory) = MemoryStore::new(members, blocks, bytes) else {
-        return Err(anyhow!("no memory store"));
-    };
+) -> anyhow::Result<Disks>
+    requires members { 0 < members }
+    requires blocks { 0 < blocks }
+    requires size { members * blocks * 512 < 2 ^ 64 }
+{
+    let memory = zeros(heap, members, blocks)?;
     let fuse = FuseSeries::new(memory, series(heap, settings)?);
-    match WriteBuffer::new(heap, fuse) {
-        Ok(disks) => Ok(disks),
-        Err(_) => Err(anyhow!("no memory for the write buffer")),
-    }
+    WriteBuffer::new(heap, fuse)
+        .ok()
+        .context("no memory for the write buffer")
 }
 
 /// How many stripes have wrong parity in the memory below: what stands while the write buffer holds nothing, as after

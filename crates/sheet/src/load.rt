@@ -4,6 +4,7 @@ ghost use Rattle.std.specs.Prelude.{◌≡◌, ◌+◌, ◌*◌, ◌%◌, ◌^�
 use array_run::call::Call;
 use member_store::BLOCK_BYTES;
 use std::alloc::{AllocError, Global};
+use std::array;
 
 /// The members of the array.
 pub const MEMBERS: usize = 4;
@@ -48,13 +49,7 @@ fn next_draw(draw: u32) -> u32
 
 // The bytes of a write: at every offset other ones than those of any other write.
 fn content(number: u8) -> [u8; BLOCK_BYTES] {
-    let mut bytes = [0u8; BLOCK_BYTES];
-    let mut byte = number;
-    for place in bytes.iter_mut() {
-        *place = byte;
-        byte = byte.wrapping_add(1);
-    }
-    bytes
+    array::from_fn(|at| number.wrapping_add((at % 256) as u8))
 }
 
 // The write of a number from 1, by a draw. Its high bits vary most.
@@ -75,7 +70,7 @@ fn write_of(number: u8, draw: u32) -> LoadWrite
 pub fn load(heap: Global) -> Result<Vec<LoadWrite>, AllocError> {
     let mut writes = Vec::new(heap);
     let mut draw = SEED;
-    for number in 1..WRITES + 1 {
+    for number in 1..=WRITES {
         draw = next_draw(draw);
         writes.push(write_of(number, draw))?;
     }

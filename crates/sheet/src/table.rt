@@ -1,6 +1,8 @@
 // The lines of the sheet.
-use crate::trial::Trial;
+use crate::trial::{Found, Trial};
+use program_parts::side::Side;
 use std::fmt;
+use std::ops::AddAssign;
 
 /// The row of one cut.
 #[derive(Clone, Copy)]
@@ -10,15 +12,21 @@ pub struct Row {
     pub trial: Trial,
 }
 
-/// What the trials of one kind add up to.
+/// The row of all trials with cuts of one kind.
 #[derive(Clone, Copy)]
+pub struct TotalsRow {
+    /// Where the load is cut.
+    pub first: Side,
+    /// Where the resynchronization is cut.
+    pub second: Option<Side>,
+    pub totals: Totals,
+}
+
+/// What trials add up to.
+#[derive(Clone, Copy, Default)]
 pub struct Totals {
     pub trials: usize,
-    pub wrong_before: usize,
-    pub named: usize,
-    pub mended: usize,
-    pub wrong_after: usize,
-    pub off_book: usize,
+    pub found: Found,
 }
 
 /// The first line of the sheet.
@@ -32,43 +40,32 @@ pub const ROW_HEADER: &str = "let through  wrong before  named  mended  wrong af
 pub const TOTALS_HEADER: &str =
     "first cut    second cut   trials  wrong before   named  mended  wrong after  off the book";
 
-impl Totals {
-    pub fn new() -> Totals {
+impl From<Trial> for Totals {
+    fn from(trial: Trial) -> Totals {
         Totals {
-            trials: 0,
-            wrong_before: 0,
-            named: 0,
-            mended: 0,
-            wrong_after: 0,
-            off_book: 0,
+            trials: 1,
+            found: trial.found,
         }
     }
+}
 
-    pub fn add(&mut self, trial: Trial) {
-        self.trials = self.trials.saturating_add(1);
-        self.wrong_before = self.wrong_before.saturating_add(trial.wrong_before);
-        self.named = self.named.saturating_add(trial.named);
-        self.mended = self.mended.saturating_add(trial.mended);
-        self.wrong_after = self.wrong_after.saturating_add(trial.wrong_after);
-        self.off_book = self.off_book.saturating_add(trial.off_book);
-    }
-
-    pub fn add_all(&mut self, other: Totals) {
+impl AddAssign<Totals> for Totals {
+    fn add_assign(&mut self, other: Totals) {
         self.trials = self.trials.saturating_add(other.trials);
-        self.wrong_before = self.wrong_before.saturating_add(other.wrong_before);
-        self.named = self.named.saturating_add(other.named);
-        self.mended = self.mended.saturating_add(other.mended);
-        self.wrong_after = self.wrong_after.saturating_add(other.wrong_after);
-        self.off_book = self.off_book.saturating_add(other.off_book);
+        self.found += other.found;
     }
 }
 
 impl fmt::Display for Row {
     fn fmt<W: fmt::Write>(&self, f: &mut fmt::Formatter<W>) -> fmt::Result {
         let k = self.let_through;
-        let t = self.trial;
-        let (before, named, mended) = (t.wrong_before, t.named, t.mended);
-        let (after, off) = (t.wrong_after, t.off_book);
+        let Found {
+            wrong_before: before,
+            named,
+            mended,
+            wrong_after: after,
+            off_book: off,
+        } = self.trial.found;
         write!(
             f,
             "{k:>11}  {before:>12}  {named:>5}  {mended:>6}  {after:>11}  {off:>12}"
@@ -78,11 +75,33 @@ impl fmt::Display for Row {
 
 impl fmt::Display for Totals {
     fn fmt<W: fmt::Write>(&self, f: &mut fmt::Formatter<W>) -> fmt::Result {
-        let (trials, before, named) = (self.trials, self.wrong_before, self.named);
-        let (mended, after, off) = (self.mended, self.wrong_after, self.off_book);
+        let trials = self.trials;
+        let Found {
+            wrong_before: before,
+            named,
+            mended,
+            wrong_after: after,
+            off_book: off,
+        } = self.found;
         write!(
             f,
             "{trials:>6}  {before:>12}  {named:>6}  {mended:>6}  {after:>11}  {off:>12}"
         )
+    }
+}
+
+fn side_name(side: Side) -> &'static str {
+    match side {
+        Side::Members => "members",
+        Side::Log => "log's store",
+    }
+}
+
+impl fmt::Display for TotalsRow {
+    fn fmt<W: fmt::Write>(&self, f: &mut fmt::Formatter<W>) -> fmt::Result {
+        let first = side_name(self.first);
+        let second = self.second.map_or("-", side_name);
+        let totals = self.totals;
+        write!(f, "{first:<11}  {second:<11}  {totals}")
     }
 }

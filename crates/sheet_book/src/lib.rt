@@ -16,12 +16,25 @@ const ZEROS: [u8; BLOCK_BYTES] = [0; BLOCK_BYTES];
 pub fn block_of(bytes: &[u8]) -> Option<[u8; BLOCK_BYTES]>
     ensures { MatchOption result (length bytes.now ≢ 512) (λ x. x ≡ bytes.now) }
 {
-    if bytes.len() != BLOCK_BYTES {
-        return None;
+    <[u8; BLOCK_BYTES]>::try_from(bytes).ok()
+}
+
+// These bytes are the block's base from now on, where it has one.
+fn set_base(bases: &mut [[u8; BLOCK_BYTES]], block: usize, bytes: [u8; BLOCK_BYTES])
+    ensures { bases.new ≡ slice_set bases.old block bytes }
+{
+    if block < bases.len() {
+        bases[block] = bytes;
     }
-    let mut block = ZEROS;
-    block.copy_from_slice(bytes);
-    Some(block)
+}
+
+// Accepted writes, oldest first, make their bytes bases.
+fn rebase_all(bases: &mut [[u8; BLOCK_BYTES]], writes: &[Accepted])
+    ensures { bases.new ≡ rebased bases.old writes.now }
+{
+    for accepted in writes {
+        set_base(bases, accepted.block, accepted.bytes);
+    }
 }
 
 impl Accepted {
@@ -38,6 +51,7 @@ impl Book {
     pub fn new(heap: Global, blocks: usize) -> Result<Book, AllocError>
         ensures { IfOk result (λ b. (b.bases.items ≡ replicate blocks zeros) × (b.writes.items ≡ [])) }
     {
+        // Kept: `vec!` says what the blocks are only if an array's clone is that array, which its clone does not say.
         let mut bases = Vec::new(heap);
         for _ in 0..blocks {
             bases.push(ZEROS)?;
@@ -73,9 +87,7 @@ impl Book {
         ensures bases { self.new.bases.items ≡ slice_set self.old.bases.items block bytes }
         ensures lists { self.new.writes ≡ self.old.writes }
     {
-        if block < self.bases.len() {
-            self.bases[block] = bytes;
-        }
+        set_base(self.bases.as_mut_slice(), block, bytes);
     }
 
     /// The lists are empty from now on.
@@ -91,10 +103,7 @@ impl Book {
         ensures bases { self.new.bases.items ≡ rebased self.old.bases.items self.old.writes.items }
         ensures lists { self.new.writes.items ≡ [] }
     {
-        for i in 0..self.writes.len() {
-            let accepted = self.writes[i];
-            self.rebase(accepted.block, accepted.bytes);
-        }
+        rebase_all(self.bases.as_mut_slice(), self.writes.as_slice());
         self.empty_lists();
     }
 
@@ -103,6 +112,7 @@ impl Book {
         ensures bases { self.new.bases.items ≡ replicate (vec_len self.old.bases) zeros }
         ensures lists { self.new.writes.items ≡ [] }
     {
+        // Kept: `fill` says what the blocks are only if an array's clone is that array, which its clone does not say.
         for block in 0..self.bases.len() {
             self.rebase(block, ZEROS);
         }
@@ -113,19 +123,16 @@ impl Book {
     fn lists(&self, block: usize, bytes: &[u8]) -> bool
         ensures { Decides result (OnList self.now.writes.items block bytes.now) }
     {
-        for accepted in self.writes.as_slice() {
-            if accepted.gives(block, bytes) {
-                return true;
-            }
-        }
-        false
+        self.writes
+            .iter()
+            .any(|accepted| accepted.gives(block, bytes))
     }
 
     /// May the block hold these bytes: are they its base or on its list?
     pub fn allows(&self, block: usize, bytes: &[u8]) -> bool
         ensures { Decides result (MayHold self.now.bases.items self.now.writes.items block bytes.now) }
     {
-        block < self.bases.len()
-            && (self.bases[block].as_slice() == bytes || self.lists(block, bytes))
+        let base = self.bases.get(block);
+        base.is_some_and(|base| base.as_slice() == bytes || self.lists(block, bytes))
     }
 }

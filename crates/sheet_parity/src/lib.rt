@@ -21,41 +21,30 @@ fn cancel_out(
 ) -> bool
     ensures { Decides result (CancelOut a.now b.now c.now d.now) }
 {
-    for i in 0..BLOCK_BYTES {
-        if a[i] ^ b[i] ^ c[i] ^ d[i] != 0 {
-            return false;
-        }
-    }
-    true
+    (0..BLOCK_BYTES).all(|i| a[i] ^ b[i] ^ c[i] ^ d[i] == 0)
 }
 
 // A member's block of a stripe, where there is one.
 fn block(memory: &MemoryStore, member: usize, stripe: usize) -> Option<[u8; BLOCK_BYTES]>
     ensures { MatchOption result (HasBlock (memory_means memory.now) member stripe → ⊥) (λ x. HasBlock (memory_means memory.now) member stripe × (x ≡ current (memory_means memory.now) member stripe)) }
 {
-    match memory.block_bytes(Address {
+    let at = Address {
         member,
         block: stripe,
-    }) {
-        Some(bytes) => block_of(bytes),
-        None => None,
-    }
+    };
+    block_of(memory.block_bytes(at)?)
 }
 
 // Does the stripe's parity equal the exclusive or of its data? Then all four blocks cancel out.
 fn is_right(memory: &MemoryStore, stripe: usize) -> bool
     ensures { Decides result (RightStripe (memory_means memory.now) stripe) }
 {
-    let Some(a) = block(memory, 0, stripe) else {
-        return false;
-    };
-    let Some(b) = block(memory, 1, stripe) else {
-        return false;
-    };
-    let Some(c) = block(memory, 2, stripe) else {
-        return false;
-    };
-    let Some(d) = block(memory, 3, stripe) else {
+    let (Some(a), Some(b), Some(c), Some(d)) = (
+        block(memory, 0, stripe),
+        block(memory, 1, stripe),
+        block(memory, 2, stripe),
+        block(memory, 3, stripe),
+    ) else {
         return false;
     };
     cancel_out(&a, &b, &c, &d)
@@ -67,6 +56,7 @@ pub fn wrong_stripes(memory: &MemoryStore, stripes: usize) -> usize
     ensures right { result ≡ 0 → AllRight (memory_means memory.now) stripes }
     ensures wrong { AllRight (memory_means memory.now) stripes → result ≡ 0 }
 {
+    // Kept: the proof of a `filter` needs the test as a function of the stripe, and `is_right` only decides a fact.
     let mut wrong = 0;
     for stripe in 0..stripes {
         if !is_right(memory, stripe) {

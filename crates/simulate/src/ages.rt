@@ -12,14 +12,6 @@ pub struct Ages {
     kinds: Vec<TokenKind>,
 }
 
-// Does a refused finish or close leave the token? It does where the state does not allow the call.
-fn leaves_token(refusal: &ArrayRefusal) -> bool {
-    match refusal {
-        ArrayRefusal::WrongState(_) => true,
-        _ => false,
-    }
-}
-
 // The token that a call has taken, by what it answered.
 fn taken(call: &Call, answer: &Answer) -> Option<TokenKind> {
     let kind = match call {
@@ -29,9 +21,10 @@ fn taken(call: &Call, answer: &Answer) -> Option<TokenKind> {
         _ => return None,
     };
     match answer {
-        Answer::NoToken => None,
-        Answer::Finish(Err(e)) if leaves_token(e) => None,
-        Answer::Plain(Err(e)) if leaves_token(e) => None,
+        // Where the state does not allow the call, a finish or close leaves the token.
+        Answer::NoToken
+        | Answer::Finish(Err(ArrayRefusal::WrongState(_)))
+        | Answer::Plain(Err(ArrayRefusal::WrongState(_))) => None,
         _ => Some(kind),
     }
 }
@@ -40,7 +33,7 @@ fn taken(call: &Call, answer: &Answer) -> Option<TokenKind> {
 fn given(call: &Call, answer: &Answer) -> Option<TokenKind> {
     match (call, answer) {
         (Call::Open, Answer::Plain(Ok(()))) => Some(TokenKind::Resync),
-        (Call::OpenShort { absent: _ }, Answer::Plain(Ok(()))) => Some(TokenKind::Short),
+        (Call::OpenShort { .. }, Answer::Plain(Ok(()))) => Some(TokenKind::Short),
         (Call::Finish, Answer::Finish(Ok(_))) => Some(TokenKind::Ready),
         _ => None,
     }
@@ -62,12 +55,7 @@ impl Ages {
     fn place(&self, kind: TokenKind) -> Option<usize>
         ensures { NewestOf self.now.kinds.items kind result }
     {
-        for i in (0..self.kinds.len()).rev() {
-            if self.kinds[i] == kind {
-                return Some(i);
-            }
-        }
-        None
+        self.kinds.iter().rposition(|held| *held == kind)
     }
 
     fn forget(&mut self, kind: TokenKind)

@@ -1,11 +1,14 @@
 // The commands of a scenario.
-use super::words::{Disks, byte, number, read_disks};
+use super::words::{byte, number};
+use program_parts::line_error::NoForm;
+use program_parts::side::Side;
+use std::str::FromStr;
 
 /// A call of the array, the setting of a fuse, or a look at everything.
 #[derive(Clone, Copy)]
 pub enum Command {
     /// The fuse lets so many more stores and barriers act.
-    Cut(Disks, usize),
+    Cut(Side, usize),
     PowerOn,
     Format,
     Open,
@@ -25,53 +28,40 @@ pub enum Command {
 }
 
 // A command without numbers.
-fn plain(word: &str) -> Option<Command> {
+fn plain(word: &str) -> Result<Command, NoForm> {
     match word {
-        "power-on" => Some(Command::PowerOn),
-        "format" => Some(Command::Format),
-        "open" => Some(Command::Open),
-        "step" => Some(Command::Step),
-        "finish" => Some(Command::Finish),
-        "destage" => Some(Command::Destage),
-        "flush" => Some(Command::Flush),
-        "close" => Some(Command::Close),
-        "give-up" => Some(Command::GiveUp),
-        "show" => Some(Command::Show),
-        _ => None,
+        "power-on" => Ok(Command::PowerOn),
+        "format" => Ok(Command::Format),
+        "open" => Ok(Command::Open),
+        "step" => Ok(Command::Step),
+        "finish" => Ok(Command::Finish),
+        "destage" => Ok(Command::Destage),
+        "flush" => Ok(Command::Flush),
+        "close" => Ok(Command::Close),
+        "give-up" => Ok(Command::GiveUp),
+        "show" => Ok(Command::Show),
+        _ => Err(NoForm),
     }
 }
 
-// A command with one number.
-fn with_number(word: &str, argument: &str) -> Option<Command> {
-    let n = number(argument)?;
-    match word {
-        "open-short" => Some(Command::OpenShort(n)),
-        "read" => Some(Command::Read(n)),
-        "read-short" => Some(Command::ReadShort(n)),
-        _ => None,
-    }
-}
+impl FromStr for Command {
+    type Err = NoForm;
 
-// A command with two words behind it.
-fn with_two(word: &str, first: &str, second: &str) -> Option<Command> {
-    match word {
-        "cut" => Some(Command::Cut(read_disks(first)?, number(second)?)),
-        "write" => Some(Command::Write(number(first)?, byte(second)?)),
-        _ => None,
-    }
-}
-
-/// Reads a command; none where the line has no form of one.
-pub fn read_command(line: &str) -> Option<Command> {
-    let mut words = line.split(' ');
-    let word = words.next()?;
-    let (first, second) = (words.next(), words.next());
-    if words.next().is_some() {
-        return None;
-    }
-    match (first, second) {
-        (None, _) => plain(word),
-        (Some(argument), None) => with_number(word, argument),
-        (Some(first), Some(second)) => with_two(word, first, second),
+    fn from_str(line: &str) -> Result<Command, NoForm> {
+        let mut words = line.split(' ');
+        let word = words.next().ok_or(NoForm)?;
+        match (word, words.next(), words.next(), words.next()) {
+            (_, None, ..) => plain(word),
+            ("open-short", Some(absent), None, _) => Ok(Command::OpenShort(number(absent)?)),
+            ("read", Some(block), None, _) => Ok(Command::Read(number(block)?)),
+            ("read-short", Some(block), None, _) => Ok(Command::ReadShort(number(block)?)),
+            ("cut", Some(side), Some(count), None) => {
+                Ok(Command::Cut(side.parse()?, number(count)?))
+            }
+            ("write", Some(block), Some(fill), None) => {
+                Ok(Command::Write(number(block)?, byte(fill)?))
+            }
+            _ => Err(NoForm),
+        }
     }
 }

@@ -4,7 +4,6 @@ use super::answer::Line;
 use super::command::Command;
 use super::current::CurrentBytes;
 use super::show::show;
-use super::words::Disks;
 use array::array::Array;
 use array_run::answer::Answer;
 use array_run::call::{Call, TokenKind};
@@ -14,6 +13,7 @@ use array_run::tokens::Tokens;
 use geometry::layout::Layout;
 use intent_log::IntentLog;
 use member_store::BLOCK_BYTES;
+use program_parts::side::Side;
 use remote_fuse::switch::FuseSwitch;
 use std::alloc::{AllocError, Global};
 use std::fmt::Write;
@@ -26,10 +26,10 @@ pub struct Switches {
 }
 
 impl Switches {
-    fn cut(&self, disks: Disks, count: usize) {
-        match disks {
-            Disks::Members => self.members.cut_after(count),
-            Disks::Log => self.log.cut_after(count),
+    fn cut(&self, side: Side, count: usize) {
+        match side {
+            Side::Members => self.members.cut_after(count),
+            Side::Log => self.log.cut_after(count),
         }
     }
 }
@@ -37,8 +37,7 @@ impl Switches {
 // The call of a command, where it makes one; a write takes its bytes from `fill`, and a give-up is of the newest token.
 fn call_of<'a>(command: Command, fill: &'a [u8], newest: Option<TokenKind>) -> Option<Call<'a>> {
     match command {
-        Command::Cut(_, _) => None,
-        Command::Show => None,
+        Command::Cut(_, _) | Command::Show => None,
         Command::PowerOn => Some(Call::PowerOn),
         Command::Format => Some(Call::Format),
         Command::Open => Some(Call::Open),
@@ -97,13 +96,9 @@ impl<S: CurrentBytes, G: IntentLog, L: Layout> Player<S, G, L> {
             &[call],
             &mut answers,
         )?;
-        match answers.pop() {
-            Some(answer) => {
-                self.ages.follow(&call, &answer)?;
-                Ok(answer)
-            }
-            None => Err(AllocError),
-        }
+        let answer = answers.pop().ok_or(AllocError)?;
+        self.ages.follow(&call, &answer)?;
+        Ok(answer)
     }
 
     // The answer line of a command.
@@ -112,8 +107,8 @@ impl<S: CurrentBytes, G: IntentLog, L: Layout> Player<S, G, L> {
         if let Some(call) = call_of(command, &fill, self.ages.newest()) {
             return Ok(Line::Told(command, self.call(heap, call)?));
         }
-        if let Command::Cut(disks, count) = command {
-            self.switches.cut(disks, count);
+        if let Command::Cut(side, count) = command {
+            self.switches.cut(side, count);
             return Ok(Line::Set);
         }
         Ok(Line::Shown(show(&self.array)))
@@ -128,9 +123,7 @@ impl<S: CurrentBytes, G: IntentLog, L: Layout> Player<S, G, L> {
     ) -> Result<(), AllocError> {
         for command in commands {
             let line = self.answer(heap, *command)?;
-            if writeln!(out, "{line}").is_err() {
-                return Err(AllocError);
-            }
+            writeln!(out, "{line}")?;
         }
         Ok(())
     }

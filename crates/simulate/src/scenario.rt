@@ -1,10 +1,8 @@
 // A scenario: its settings, its commands, and the first line of no form.
-ghost use Rattle.std.specs.Prelude.{◌≡◌, ◌<◌, length};
-ghost use Rattle.simulate.specs.Lines.{FirstLine};
-
-use super::command::{Command, read_command};
-use super::settings::{Settings, read_setting};
-use std::alloc::{AllocError, Global};
+use super::command::Command;
+use super::settings::{Setting, Settings};
+use program_parts::line_error::{LineError, NoForm};
+use std::alloc::Global;
 
 #[derive(Drop)]
 pub struct Scenario {
@@ -13,19 +11,6 @@ pub struct Scenario {
     pub commands: Vec<Command>,
     /// The number of the first line of no form, which ends the scenario.
     pub bad_line: Option<usize>,
-}
-
-// The first line without its end, and what follows.
-fn split_line(bytes: &[u8]) -> (&[u8], &[u8])
-    ensures line { FirstLine bytes.now result.0.now result.1.now }
-    ensures fewer { 0 < length bytes.now → length result.1.now < length bytes.now }
-{
-    for (i, b) in bytes.iter().enumerate() {
-        if *b == b'\n' {
-            return (&bytes[0..i], &bytes[i + 1..bytes.len()]);
-        }
-    }
-    (bytes, &bytes[bytes.len()..bytes.len()])
 }
 
 // A line without its comment and the spaces before that.
@@ -37,50 +22,42 @@ fn without_comment(line: &str) -> &str {
 }
 
 impl Scenario {
-    // Takes what a line says; false where it has no form of a line.
-    fn take(&mut self, line: &str) -> Result<bool, AllocError> {
+    // Takes what a line says.
+    fn take(&mut self, line: &str) -> Result<(), LineError> {
         if line.is_empty() {
-            return Ok(true);
+            return Ok(());
         }
         if self.commands.is_empty() {
-            if let Some(setting) = read_setting(line) {
-                return Ok(self.settings.take(setting));
+            if let Ok(setting) = line.parse::<Setting>() {
+                return Ok(self.settings.take(setting)?);
             }
         }
-        match read_command(line) {
-            Some(command) => {
-                self.commands.push(command)?;
-                Ok(true)
-            }
-            None => Ok(false),
-        }
+        self.commands.push(line.parse()?)?;
+        Ok(())
     }
 
     // Takes the bytes of a line; those that are no text have no form of one.
-    fn take_bytes(&mut self, line: &[u8]) -> Result<bool, AllocError> {
-        match std::str::from_utf8(line) {
-            Ok(text) => self.take(without_comment(text)),
-            Err(_) => Ok(false),
-        }
+    fn take_bytes(&mut self, line: &[u8]) -> Result<(), LineError> {
+        let text = std::str::from_utf8(line).ok().ok_or(NoForm)?;
+        self.take(without_comment(text))
     }
 }
 
 /// Reads a scenario, up to the first line of no form.
-pub fn read_scenario(heap: Global, bytes: &[u8]) -> Result<Scenario, AllocError> {
+pub fn read_scenario(heap: Global, bytes: &[u8]) -> Result<Scenario, LineError> {
     let mut scenario = Scenario {
-        settings: Settings::new(),
+        settings: Settings::default(),
         commands: Vec::new(heap),
         bad_line: None,
     };
-    let mut rest = bytes;
-    let mut number = 0usize;
-    while !rest.is_empty() {
-        let (line, after) = split_line(rest);
-        rest = after;
-        number = number.saturating_add(1);
-        if !scenario.take_bytes(line)? {
-            scenario.bad_line = Some(number);
-            return Ok(scenario);
+    for (number, line) in (1usize..).zip(bytes.split(|byte| *byte == b'\n')) {
+        match scenario.take_bytes(line) {
+            Ok(()) => {}
+            Err(LineError::NoForm) => {
+                scenario.bad_line = Some(number);
+                return Ok(scenario);
+            }
+            Err(e) => return Err(e),
         }
     }
     Ok(scenario)

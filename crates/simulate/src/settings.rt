@@ -1,5 +1,12 @@
 // What a scenario may set before its first command.
-use super::words::{Disks, number, read_disks};
+ghost use Rattle.std.specs.Prelude.{◌*◌, ◌<◌, ◌≤◌};
+
+use super::words::number;
+use program_parts::layout_kind::LayoutKind;
+use program_parts::line_error::NoForm;
+use program_parts::log_kind::LogKind;
+use program_parts::side::Side;
+use std::str::FromStr;
 
 /// The most blocks of all members together.
 const MOST_BLOCKS: usize = 65_536;
@@ -9,6 +16,9 @@ const MOST_BLOCKS: usize = 65_536;
 pub struct Counts {
     pub members: usize,
     pub blocks: usize,
+    ghost some_members: { 0 < members },
+    ghost some_blocks: { 0 < blocks },
+    ghost few: { members * blocks ≤ 65536 },
 }
 
 const ARRAY_COUNTS: Counts = Counts {
@@ -21,32 +31,17 @@ const LOG_COUNTS: Counts = Counts {
     blocks: 8,
 };
 
-/// The kinds of log.
-#[derive(Clone, Copy)]
-pub enum LogKind {
-    Ring,
-    Flag,
-}
-
-/// The layouts.
-#[derive(Clone, Copy)]
-pub enum LayoutKind {
-    RightAsymmetric,
-    LeftAsymmetric,
-    LeftSymmetric,
-}
-
 /// One setting.
 #[derive(Clone, Copy)]
 pub enum Setting {
     Members(Counts),
     Layout(LayoutKind),
     Log(LogKind, Counts),
-    Buffer(Disks),
+    Buffer(Side),
 }
 
 /// The settings of a scenario, each as it was given.
-#[derive(Clone, Copy)]
+#[derive(Clone, Copy, Default)]
 pub struct Settings {
     members: Option<Counts>,
     layout: Option<LayoutKind>,
@@ -55,74 +50,40 @@ pub struct Settings {
     log_buffered: bool,
 }
 
-fn read_counts(members: &str, blocks: &str) -> Option<Counts> {
-    let members = number(members)?;
-    let blocks = number(blocks)?;
-    if members == 0 || blocks == 0 || members > MOST_BLOCKS / blocks {
-        return None;
-    }
-    Some(Counts { members, blocks })
-}
-
-// A layout by its RAID level qualifier.
-fn read_layout(qualifier: &str) -> Option<LayoutKind> {
-    match qualifier {
-        "0" => Some(LayoutKind::RightAsymmetric),
-        "2" => Some(LayoutKind::LeftAsymmetric),
-        "3" => Some(LayoutKind::LeftSymmetric),
-        _ => None,
+impl Counts {
+    fn parse(members: &str, blocks: &str) -> Result<Counts, NoForm> {
+        let members = number(members)?;
+        let blocks = number(blocks)?;
+        if members == 0 || blocks == 0 || members > MOST_BLOCKS / blocks {
+            return Err(NoForm);
+        }
+        Ok(Counts { members, blocks })
     }
 }
 
-fn read_log_kind(word: &str) -> Option<LogKind> {
-    match word {
-        "ring" => Some(LogKind::Ring),
-        "flag" => Some(LogKind::Flag),
-        _ => None,
-    }
-}
+impl FromStr for Setting {
+    type Err = NoForm;
 
-fn with_one(word: &str, argument: &str) -> Option<Setting> {
-    match word {
-        "layout" => Some(Setting::Layout(read_layout(argument)?)),
-        "buffer" => Some(Setting::Buffer(read_disks(argument)?)),
-        _ => None,
-    }
-}
-
-/// Reads a setting; none where the line has no form of one.
-pub fn read_setting(line: &str) -> Option<Setting> {
-    let mut words = line.split(' ');
-    let word = words.next()?;
-    let first = words.next()?;
-    let (second, third) = (words.next(), words.next());
-    if words.next().is_some() {
-        return None;
-    }
-    match (word, second, third) {
-        (_, None, _) => with_one(word, first),
-        ("members", Some(blocks), None) => Some(Setting::Members(read_counts(first, blocks)?)),
-        ("log", Some(members), Some(blocks)) => Some(Setting::Log(
-            read_log_kind(first)?,
-            read_counts(members, blocks)?,
-        )),
-        _ => None,
+    fn from_str(line: &str) -> Result<Setting, NoForm> {
+        let mut words = line.split(' ');
+        let word = words.next().ok_or(NoForm)?;
+        match (word, words.next(), words.next(), words.next(), words.next()) {
+            ("layout", Some(layout), None, ..) => Ok(Setting::Layout(layout.parse()?)),
+            ("buffer", Some(side), None, ..) => Ok(Setting::Buffer(side.parse()?)),
+            ("members", Some(members), Some(blocks), None, _) => {
+                Ok(Setting::Members(Counts::parse(members, blocks)?))
+            }
+            ("log", Some(kind), Some(members), Some(blocks), None) => Ok(Setting::Log(
+                kind.parse()?,
+                Counts::parse(members, blocks)?,
+            )),
+            _ => Err(NoForm),
+        }
     }
 }
 
 impl Settings {
-    /// Nothing is set.
-    pub fn new() -> Settings {
-        Settings {
-            members: None,
-            layout: None,
-            log: None,
-            members_buffered: false,
-            log_buffered: false,
-        }
-    }
-
-    /// Was this set before?
+    // Was this set before?
     fn has(&self, setting: Setting) -> bool {
         match setting {
             Setting::Members(_) => self.members.is_some(),
@@ -132,29 +93,26 @@ impl Settings {
         }
     }
 
-    /// Takes a setting; false where it was set before.
-    pub fn take(&mut self, setting: Setting) -> bool {
+    /// Takes a setting that was not set before.
+    pub fn take(&mut self, setting: Setting) -> Result<(), NoForm> {
         if self.has(setting) {
-            return false;
+            return Err(NoForm);
         }
         match setting {
             Setting::Members(counts) => self.members = Some(counts),
             Setting::Layout(layout) => self.layout = Some(layout),
             Setting::Log(kind, counts) => self.log = Some((kind, counts)),
-            Setting::Buffer(Disks::Members) => self.members_buffered = true,
-            Setting::Buffer(Disks::Log) => self.log_buffered = true,
+            Setting::Buffer(Side::Members) => self.members_buffered = true,
+            Setting::Buffer(Side::Log) => self.log_buffered = true,
         }
-        true
+        Ok(())
     }
 
     /// The counts of the array, or of the log.
-    pub fn counts(&self, of: Disks) -> Counts {
+    pub fn counts(&self, of: Side) -> Counts {
         match of {
-            Disks::Members => self.members.unwrap_or(ARRAY_COUNTS),
-            Disks::Log => match self.log {
-                Some((_, counts)) => counts,
-                None => LOG_COUNTS,
-            },
+            Side::Members => self.members.unwrap_or(ARRAY_COUNTS),
+            Side::Log => self.log.map_or(LOG_COUNTS, |(_, counts)| counts),
         }
     }
 
@@ -163,17 +121,14 @@ impl Settings {
     }
 
     pub fn log_kind(&self) -> LogKind {
-        match self.log {
-            Some((kind, _)) => kind,
-            None => LogKind::Ring,
-        }
+        self.log.map_or(LogKind::Ring, |(kind, _)| kind)
     }
 
     /// Does a write buffer lie over this fuse?
-    pub fn buffered(&self, on: Disks) -> bool {
+    pub fn buffered(&self, on: Side) -> bool {
         match on {
-            Disks::Members => self.members_buffered,
-            Disks::Log => self.log_buffered,
+            Side::Members => self.members_buffered,
+            Side::Log => self.log_buffered,
         }
     }
 }

@@ -1,8 +1,7 @@
 // A look at an array and what it rests on, which changes nothing and needs no power.
 ghost use Rattle.std.specs.Prelude.{◌≡◌, ℕ, ◌-◌, ◌^◌, ◌<◌, ◌≤◌, true, false, take, if◌then◌else◌};
 ghost use Rattle.geometry.specs.Counts.{members_of, blocks_of};
-ghost use Rattle.geometry.specs.Places.{stripes as stripe_count, block_of_stripe};
-ghost use Rattle.parity.specs.Xor.{parity_of};
+ghost use Rattle.geometry.specs.Places.{stripes as stripe_count};
 ghost use Rattle.stripe_work.specs.Stripe.{stripe_at, stripe_data, parity_right, InStore};
 ghost use Rattle.stripe_work.specs.Work.{wrong_below};
 ghost use Rattle.cache.specs.Meaning.{contents};
@@ -13,13 +12,12 @@ use array::array::Array;
 use array_model::state::State;
 use geometry::array_geometry::Geometry;
 use geometry::layout::Layout;
-use block_address::Address;
-use geometry::place::Location;
 use geometry::shape::Shape;
 use intent_log::IntentLog;
-use member_store::MemberStore;
-use parity::parity;
-use stripe_work::data::MOST_POSITIONS;
+use member_store::{BLOCK_BYTES, MemberStore};
+use std::fmt;
+use stripe_work::data::{Block, MOST_POSITIONS, parity_of_rows};
+use stripe_work::stripe::Stripe;
 
 /// What a show tells.
 #[derive(Clone, Copy)]
@@ -33,72 +31,53 @@ pub struct Picture {
     pub free: usize,
 }
 
-// Where the data at a position of a stripe lies.
-fn data_place<L: Layout>(geometry: &Geometry<L>, stripe: usize, position: usize) -> Address
-    requires { (stripe < stripe_count (blocks_of geometry.now.shape)) × (position < members_of geometry.now.shape - 1) }
-    ensures member { result.member ≡ (L.Layout.arrangement (members_of geometry.now.shape) stripe).member position }
-    ensures block { result.block ≡ block_of_stripe stripe }
-{
-    geometry.position_address(Location { stripe, position })
-        .unwrap()
-}
-
-// Where the parity of a stripe lies.
-fn parity_place<L: Layout>(geometry: &Geometry<L>, stripe: usize) -> Address
-    requires { stripe < stripe_count (blocks_of geometry.now.shape) }
-    ensures member { result.member ≡ (L.Layout.arrangement (members_of geometry.now.shape) stripe).parity }
-    ensures block { result.block ≡ block_of_stripe stripe }
-{
-    geometry.parity_address(stripe).unwrap()
+impl fmt::Display for Picture {
+    fn fmt<W: fmt::Write>(&self, f: &mut fmt::Formatter<W>) -> fmt::Result {
+        write!(f, "state {} wrong {} named ", self.state, self.wrong)?;
+        match self.named {
+            Some(named) => write!(f, "{named}")?,
+            None => f.write_str("-")?,
+        }
+        write!(f, " free {}", self.free)
+    }
 }
 
 // The data of a stripe by position, as it is now.
 fn copy_data<S: CurrentBytes, L: Layout>(
     store: &S,
-    geometry: &Geometry<L>,
-    stripe: usize,
-    rows: &mut [[u8; 512]; MOST_POSITIONS],
+    stripe: &Stripe<L>,
+    rows: &mut [Block; MOST_POSITIONS],
 )
-    requires { stripe < stripe_count (blocks_of geometry.now.shape) }
-    ensures { InStore (stripe_at L.Layout.arrangement (members_of geometry.now.shape) stripe) (S.MemberStore.meaning store.now) → take (members_of geometry.now.shape - 1) rows.new ≡ stripe_data (stripe_at L.Layout.arrangement (members_of geometry.now.shape) stripe) (S.MemberStore.meaning store.now) }
+    ensures { InStore (stripe_at L.Layout.arrangement (members_of stripe.now.geometry.shape) stripe.now.number) (S.MemberStore.meaning store.now) → take (members_of stripe.now.geometry.shape - 1) rows.new ≡ stripe_data (stripe_at L.Layout.arrangement (members_of stripe.now.geometry.shape) stripe.now.number) (S.MemberStore.meaning store.now) }
 {
-    for position in 0..shape.members().positions() {
-        let at = data_place(geometry, stripe, position);
-        store.copy_current(at, &mut rows[position]);
+    for position in 0..stripe.positions() {
+        store.copy_current(stripe.data_address(position), &mut rows[position]);
     }
 }
 
-// The parity of the first rows.
-fn parity_of_rows(rows: &[[u8; 512]; MOST_POSITIONS], count: usize) -> [u8; 512]
-    requires { (2 ≤ count) × (count ≤ 7) }
-    ensures { result ≡ parity_of (take count rows.now) }
-{
-    let mut sum = [0u8; 512];
-    let _ = parity(&rows[0..count], &mut sum);
-    sum
-}
-
 // Is the parity of a stripe right now?
-fn is_right<S: CurrentBytes, L: Layout>(store: &S, geometry: &Geometry<L>, stripe: usize) -> bool
-    requires { stripe < stripe_count (blocks_of geometry.now.shape) }
-    ensures { InStore (stripe_at L.Layout.arrangement (members_of geometry.now.shape) stripe) (S.MemberStore.meaning store.now) → result ≡ parity_right (stripe_at L.Layout.arrangement (members_of geometry.now.shape) stripe) (S.MemberStore.meaning store.now) }
+fn is_right<S: CurrentBytes, L: Layout>(store: &S, stripe: &Stripe<L>) -> bool
+    ensures { InStore (stripe_at L.Layout.arrangement (members_of stripe.now.geometry.shape) stripe.now.number) (S.MemberStore.meaning store.now) → result ≡ parity_right (stripe_at L.Layout.arrangement (members_of stripe.now.geometry.shape) stripe.now.number) (S.MemberStore.meaning store.now) }
 {
-    let mut rows = [[0u8; 512]; MOST_POSITIONS];
-    copy_data(store, geometry, stripe, &mut rows);
-    let sum = parity_of_rows(&rows, geometry.shape.members().positions());
-    let at = parity_place(geometry, stripe);
-    let mut found = [0u8; 512];
-    store.copy_current(at, &mut found);
+    let mut rows = [[0; BLOCK_BYTES]; MOST_POSITIONS];
+    copy_data(store, stripe, &mut rows);
+    let sum = parity_of_rows(&rows[..stripe.positions()]);
+    let mut found = [0; BLOCK_BYTES];
+    store.copy_current(stripe.parity_address(), &mut found);
     found == sum
 }
 
-// How many stripes of an array of this shape have wrong parity now.
+// How many stripes of an array of this geometry have wrong parity now.
 fn count_wrong<S: CurrentBytes, L: Layout>(store: &S, geometry: &Geometry<L>) -> usize
     ensures { ((k : ℕ) → k < stripe_count (blocks_of geometry.now.shape) → InStore (stripe_at L.Layout.arrangement (members_of geometry.now.shape) k) (S.MemberStore.meaning store.now)) → result ≡ wrong_below L.Layout.arrangement (members_of geometry.now.shape) (S.MemberStore.meaning store.now) (stripe_count (blocks_of geometry.now.shape)) }
 {
     let mut wrong = 0;
-    for stripe in 0..shape.stripes() {
-        if !is_right(store, geometry, stripe) {
+    for number in 0..geometry.shape.stripes() {
+        let stripe = Stripe {
+            geometry: *geometry,
+            number,
+        };
+        if !is_right(store, &stripe) {
             wrong += 1;
         }
     }
@@ -119,20 +98,14 @@ fn wrong_stripes<S: CurrentBytes, L: Layout>(store: &S, layout: &L) -> usize
 fn has_record<G: IntentLog>(log: &G) -> bool
     ensures { G.IntentLog.sound log.now → result ≡ (if (G.IntentLog.meaning log.now).on then (G.IntentLog.meaning log.now).standing.stands else false) }
 {
-    match log.stands() {
-        Ok(stands) => stands,
-        Err(_) => false,
-    }
+    log.stands().unwrap_or(false)
 }
 
 // Is a stripe named by a log that has power?
 fn is_named<G: IntentLog>(log: &G, stripe: u32) -> bool
     ensures { G.IntentLog.sound log.now → (G.IntentLog.meaning log.now).on ≡ true → result ≡ (G.IntentLog.meaning log.now).standing.names stripe }
 {
-    match log.is_named(stripe) {
-        Ok(named) => named,
-        Err(_) => false,
-    }
+    log.is_named(stripe).unwrap_or(false)
 }
 
 // How many of the first stripes are named; none where the log has no power or no record stands.

@@ -1,36 +1,16 @@
-// Numbers and names as a scenario writes them.
-
-/// The disks that a fuse lies over.
-#[derive(Clone, Copy, PartialEq, Eq, Debug)]
-pub enum Disks {
-    /// Those of the array.
-    Members,
-    /// Those of the log.
-    Log,
-}
-
-/// The disks of a name.
-pub fn read_disks(word: &str) -> Option<Disks> {
-    match word {
-        "members" => Some(Disks::Members),
-        "log" => Some(Disks::Log),
-        _ => None,
-    }
-}
+// Numbers as a scenario writes them.
+use program_parts::line_error::NoForm;
 
 /// A number in its shortest decimal form: digits alone, and no zero before another digit.
-pub fn number(word: &str) -> Option<usize> {
+pub fn number(word: &str) -> Result<usize, NoForm> {
     match word.as_bytes() {
-        [b'0'] => Some(0),
-        [b'1'..=b'9', ..] => word.parse::<usize>().ok(),
-        _ => None,
+        [b'0'] => Ok(0),
+        [b'1'..=b'9', ..] => word.parse().ok().ok_or(NoForm),
+        _ => Err(NoForm),
     }
 }
 
 /// A number of at most 255.
-pub fn byte(word: &str) -> Option<u8> {
-    match u8::try_from(number(word)?) {
-        Ok(fill) => Some(fill),
-        Err(_) => None,
-    }
+pub fn byte(word: &str) -> Result<u8, NoForm> {
+    u8::try_from(number(word)?).ok().ok_or(NoForm)
 }

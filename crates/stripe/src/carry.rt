@@ -1,38 +1,29 @@
 // A file over the members of an array and back: laid out with parity, one member forgotten and worked out again.
+use block_address::Address;
 use geometry::array_geometry::Geometry;
 use geometry::layout::Layout;
-use block_address::Address;
 use geometry::place::Location;
 use geometry::shape::Shape;
-use member_store::MemberStore;
+use member_store::{BLOCK_BYTES, MemberStore};
 use stripe_work::data::{CachedBlocks, MOST_POSITIONS};
 use stripe_work::destage::destage_stripe;
 use stripe_work::reconstruct::reconstruct_block;
 use stripe_work::refusal::StripeRefusal;
 
-/// The bytes of a block.
-pub const BLOCK_BYTES: usize = 512;
-
 // What a forgotten member holds.
-const FORGOTTEN: [u8; 512] = [0xa5; 512];
+const FORGOTTEN: [u8; BLOCK_BYTES] = [0xa5; BLOCK_BYTES];
 
 /// How many blocks so many bytes take.
 pub fn blocks_for(bytes: usize) -> usize {
-    bytes / BLOCK_BYTES + (bytes % BLOCK_BYTES).min(1)
+    bytes.div_ceil(BLOCK_BYTES)
 }
 
 // A block of the file, filled up with zeros.
-fn file_block(file: &[u8], block: usize) -> [u8; 512] {
-    let mut bytes = [0u8; 512];
-    let (whole, rest) = file.as_chunks::<512>();
-    if block < whole.len() {
-        bytes = whole[block];
-    } else if block == whole.len() {
-        for (i, b) in rest.iter().enumerate() {
-            if i < BLOCK_BYTES {
-                bytes[i] = *b;
-            }
-        }
+fn file_block(file: &[u8], block: usize) -> [u8; BLOCK_BYTES] {
+    let mut bytes = [0u8; BLOCK_BYTES];
+    let held = file.chunks(BLOCK_BYTES).nth(block).unwrap_or(&[]);
+    for (byte, from) in bytes.iter_mut().zip(held) {
+        *byte = *from;
     }
     bytes
 }
@@ -40,10 +31,9 @@ fn file_block(file: &[u8], block: usize) -> [u8; 512] {
 // The blocks of the file that lie in a stripe, by position.
 fn stripe_blocks(file: &[u8], shape: Shape, stripe: usize) -> CachedBlocks {
     let mut cached = [None; MOST_POSITIONS];
-    for position in 0..MOST_POSITIONS {
-        if let Some(block) = shape.block_number(Location { stripe, position }) {
-            cached[position] = Some(file_block(file, block));
-        }
+    for (position, bytes) in cached.iter_mut().enumerate() {
+        let block = shape.block_number(Location { stripe, position });
+        *bytes = block.map(|block| file_block(file, block));
     }
     cached
 }
@@ -54,11 +44,9 @@ pub fn lay_out<S: MemberStore, L: Layout>(
     geometry: &Geometry<L>,
     file: &[u8],
 ) -> Result<(), StripeRefusal> {
-    for stripe in 0..shape.stripes() {
+    for stripe in 0..geometry.shape.stripes() {
         let cached = stripe_blocks(file, geometry.shape, stripe);
-        if let Err(e) = destage_stripe(store, geometry, stripe, &cached) {
-            return Err(e);
-        }
+        destage_stripe(store, geometry, stripe, &cached)?;
     }
     Ok(())
 }
@@ -66,9 +54,7 @@ pub fn lay_out<S: MemberStore, L: Layout>(
 /// Overwrites all blocks of a member.
 pub fn forget<S: MemberStore>(store: &mut S, member: usize) -> Result<(), StripeRefusal> {
     for block in 0..store.blocks() {
-        if let Err(e) = store.store(Address { member, block }, &FORGOTTEN) {
-            return Err(StripeRefusal::Device(e));
-        }
+        store.store(Address { member, block }, &FORGOTTEN)?;
     }
     Ok(())
 }
@@ -79,19 +65,14 @@ pub fn work_out<S: MemberStore, L: Layout>(
     geometry: &Geometry<L>,
     member: usize,
 ) -> Result<usize, StripeRefusal> {
-    let mut count = 0usize;
-    for block in 0..shape.blocks() {
-        let mut bytes = [0u8; 512];
+    let blocks = geometry.shape.blocks();
+    for block in 0..blocks {
+        let mut bytes = [0u8; BLOCK_BYTES];
         let at = Address { member, block };
-        if let Err(e) = reconstruct_block(store, geometry, at, &mut bytes) {
-            return Err(e);
-        }
-        if let Err(e) = store.store(at, &bytes) {
-            return Err(StripeRefusal::Device(e));
-        }
-        count = count.saturating_add(1);
+        reconstruct_block(store, geometry, at, &mut bytes)?;
+        store.store(at, &bytes)?;
     }
-    Ok(count)
+    Ok(blocks)
 }
 
 // Does a block of the array hold that of the file?
@@ -104,10 +85,8 @@ fn holds_block<S: MemberStore, L: Layout>(
     let Some(at) = geometry.data_address(block) else {
         return Ok(false);
     };
-    let mut bytes = [0u8; 512];
-    if let Err(e) = store.read(at, &mut bytes) {
-        return Err(StripeRefusal::Device(e));
-    }
+    let mut bytes = [0u8; BLOCK_BYTES];
+    store.read(at, &mut bytes)?;
     Ok(bytes == file_block(file, block))
 }
 
@@ -117,12 +96,10 @@ pub fn holds_file<S: MemberStore, L: Layout>(
     geometry: &Geometry<L>,
     file: &[u8],
 ) -> Result<bool, StripeRefusal> {
-    let mut all = true;
     for block in 0..blocks_for(file.len()) {
-        match holds_block(store, geometry, file, block) {
-            Ok(same) => all = all & same,
-            Err(e) => return Err(e),
+        if !holds_block(store, geometry, file, block)? {
+            return Ok(false);
         }
     }
-    Ok(all)
+    Ok(true)
 }

@@ -3,40 +3,32 @@
 #![tactic(auto)]
 
 mod carry;
-mod input;
 mod summary;
 mod words;
 
-use anyhow::anyhow;
+use anyhow::Context;
 use geometry::array_geometry::Geometry;
 use geometry::layout::{Layout, LeftAsymmetric, LeftSymmetric, RightAsymmetric};
 use geometry::shape::{MemberCount, Shape};
-use member_store::MemberStore;
 use memory_store::memory::MemoryStore;
+use program_parts::ending::end;
+use program_parts::input::read_input;
+use program_parts::layout_kind::LayoutKind;
+use program_parts::zeros::zeros;
 use std::alloc::Global;
 use std::process::ExitCode;
 use stripe_work::refusal::StripeRefusal;
 use stripe_work::resync::count_wrong_stripes;
-use summary::Summary;
-use words::{Order, Qualifier};
+use summary::{Carried, Picture, Summary};
+use words::Order;
+
+/// The most bytes that are taken: 1 MiB.
+const MOST_BYTES: u32 = 1_048_576;
 
 // The smallest array that holds so many blocks.
 fn shape_for(members: MemberCount, blocks: usize) -> Option<Shape> {
-    let positions = members.positions();
-    let stripes = blocks / positions + (blocks % positions).min(1);
+    let stripes = blocks.div_ceil(members.positions());
     Shape::new(members.get(), stripes.max(1)).ok()
-}
-
-// An array's members in memory, all zeros.
-fn members_for(heap: Global, shape: Shape) -> anyhow::Result<MemoryStore> {
-    let members = shape.members().get();
-    let blocks = shape.blocks();
-    let len = members.saturating_mul(blocks).saturating_mul(512);
-    let bytes = vec![in heap; 0u8; len]?;
-    match MemoryStore::new(members, blocks, bytes) {
-        Ok(store) => Ok(store),
-        Err(_) => Err(anyhow!("there is no memory for the members")),
-    }
 }
 
 // Lays the file out, loses a member and works it out again.
@@ -45,65 +37,55 @@ fn carry_over<L: Layout>(
     geometry: &Geometry<L>,
     lost: usize,
     file: &[u8],
-) -> Result<(usize, usize, bool), StripeRefusal> {
+) -> Result<Carried, StripeRefusal> {
     carry::lay_out(store, geometry, file)?;
     carry::forget(store, lost)?;
-    let worked_out = carry::work_out(store, geometry, lost)?;
-    let wrong = match count_wrong_stripes(store, geometry) {
-        Ok(wrong) => wrong,
-        Err(e) => return Err(StripeRefusal::Device(e)),
-    };
-    let back = carry::holds_file(store, geometry, file)?;
-    Ok((worked_out, wrong, back))
+    Ok(Carried {
+        lost,
+        worked_out: carry::work_out(store, geometry, lost)?,
+        wrong: count_wrong_stripes(store, geometry)?,
+        back: carry::holds_file(store, geometry, file)?,
+    })
 }
 
 fn summarize<L: Layout>(
     heap: Global,
     layout: &L,
-    qualifier: u8,
     order: Order,
     file: &[u8],
 ) -> anyhow::Result<Summary> {
     let blocks = carry::blocks_for(file.len());
-    let Some(shape) = shape_for(order.members, blocks) else {
-        return Err(anyhow!("the array would be too large"));
-    };
-    let mut store = members_for(heap, shape)?;
+    let shape = shape_for(order.members, blocks).context("the array would be too large")?;
+    let mut store = zeros(heap, shape.members().get(), shape.blocks())?;
     let geometry = Geometry { layout, shape };
-    match carry_over(&mut store, &geometry, order.lost, file) {
-        Ok((worked_out, wrong, back)) => Ok(Summary {
-            bytes: file.len(),
-            blocks,
-            qualifier,
-            picture: summary::picture_of(&geometry),
-            lost: order.lost,
-            worked_out,
-            wrong,
-            back,
-        }),
-        Err(_) => Err(anyhow!("the members refused a call")),
-    }
+    let carried = carry_over(&mut store, &geometry, order.lost, file)
+        .ok()
+        .context("the members refused a call")?;
+    Ok(Summary {
+        bytes: file.len(),
+        blocks,
+        layout: order.layout,
+        picture: Picture::new(&geometry),
+        carried,
+    })
 }
 
 fn run(rt: &HostRuntime) -> anyhow::Result<()> {
     let order = words::read_order(rt)?;
-    let bytes = input::read_input(rt)?;
+    let bytes = read_input(rt.alloc(), rt.stdin(), MOST_BYTES)?.context(
+        "standard input has more than 1 MiB",
+    )?;
     let file = bytes.as_slice();
-    let summary = match order.qualifier {
-        Qualifier::Rlq0 => summarize(rt.alloc(), &RightAsymmetric, 0, order, file)?,
-        Qualifier::Rlq2 => summarize(rt.alloc(), &LeftAsymmetric, 2, order, file)?,
-        Qualifier::Rlq3 => summarize(rt.alloc(), &LeftSymmetric, 3, order, file)?,
+    let summary = match order.layout {
+        LayoutKind::RightAsymmetric => summarize(rt.alloc(), &RightAsymmetric, order, file)?,
+        LayoutKind::LeftAsymmetric => summarize(rt.alloc(), &LeftAsymmetric, order, file)?,
+        LayoutKind::LeftSymmetric => summarize(rt.alloc(), &LeftSymmetric, order, file)?,
     };
     rt.println(summary)?;
     Ok(())
 }
 
 fn main(rt: HostRuntime) -> ExitCode {
-    match run(&rt) {
-        Ok(()) => ExitCode::SUCCESS,
-        Err(e) => {
-            let _ = rt.eprintln(&e);
-            ExitCode::FAILURE
-        }
-    }
+    let outcome = run(&rt);
+    end(&rt, outcome)
 }

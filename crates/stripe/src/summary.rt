@@ -1,10 +1,11 @@
 // What was done, as text.
+use block_address::Address;
 use geometry::array_geometry::Geometry;
 use geometry::layout::Layout;
-use block_address::Address;
 use geometry::place::Content;
-use geometry::shape::{MOST_MEMBERS, Shape};
-use std::fmt;
+use geometry::shape::MOST_MEMBERS;
+use program_parts::layout_kind::LayoutKind;
+use std::{array, fmt};
 
 /// How many stripes are shown.
 const SHOWN: usize = 8;
@@ -14,7 +15,7 @@ const SHOWN: usize = 8;
 struct Cell(Option<Content>);
 
 /// The blocks of data and of parity on a member.
-#[derive(Clone, Copy)]
+#[derive(Clone, Copy, Default)]
 struct Tally {
     data_blocks: usize,
     parity_blocks: usize,
@@ -29,74 +30,62 @@ pub struct Picture {
     cells: [[Cell; MOST_MEMBERS]; SHOWN],
 }
 
-/// What was done with a file.
+/// What became of a file on the members.
 #[derive(Clone, Copy)]
-pub struct Summary {
-    pub bytes: usize,
-    pub blocks: usize,
-    pub qualifier: u8,
-    pub picture: Picture,
+pub struct Carried {
     pub lost: usize,
     pub worked_out: usize,
     pub wrong: usize,
     pub back: bool,
 }
 
-fn content_of<L: Layout>(
-    geometry: &Geometry<L>,
-    stripe: usize,
-    member: usize,
-) -> Option<Content> {
-    let at = geometry.parity_address(stripe)?;
-    geometry.content(Address {
-            member,
-            block: at.block,
-        },
-    )
+/// What was done with a file.
+#[derive(Clone, Copy)]
+pub struct Summary {
+    pub bytes: usize,
+    pub blocks: usize,
+    pub layout: LayoutKind,
+    pub picture: Picture,
+    pub carried: Carried,
 }
 
-fn tally_of<L: Layout>(geometry: &Geometry<L>, member: usize) -> Tally {
-    let mut tally = Tally {
-        data_blocks: 0,
-        parity_blocks: 0,
-    };
-    for stripe in 0..shape.stripes() {
-        match content_of(geometry, stripe, member) {
-            Some(Content::Data(_)) => tally.data_blocks = tally.data_blocks.saturating_add(1),
-            Some(Content::Parity) => tally.parity_blocks = tally.parity_blocks.saturating_add(1),
-            None => {}
+impl Cell {
+    fn new<L: Layout>(geometry: &Geometry<L>, stripe: usize, member: usize) -> Cell {
+        let parity = geometry.parity_address(stripe);
+        Cell(parity.and_then(|at| {
+            let block = at.block;
+            geometry.content(Address { member, block })
+        }))
+    }
+}
+
+impl Tally {
+    fn new<L: Layout>(geometry: &Geometry<L>, member: usize) -> Tally {
+        let mut tally = Tally::default();
+        for stripe in 0..geometry.shape.stripes() {
+            match Cell::new(geometry, stripe, member).0 {
+                Some(Content::Data(_)) => tally.data_blocks = tally.data_blocks.saturating_add(1),
+                Some(Content::Parity) => {
+                    tally.parity_blocks = tally.parity_blocks.saturating_add(1)
+                }
+                None => {}
+            }
         }
+        tally
     }
-    tally
 }
 
-fn cells_of<L: Layout>(geometry: &Geometry<L>, stripe: usize) -> [Cell; MOST_MEMBERS] {
-    let mut cells = [Cell(None); MOST_MEMBERS];
-    for member in 0..MOST_MEMBERS {
-        cells[member] = Cell(content_of(geometry, stripe, member));
-    }
-    cells
-}
-
-/// What lies where in an array of this shape and layout.
-pub fn picture_of<L: Layout>(geometry: &Geometry<L>) -> Picture {
-    let empty = Tally {
-        data_blocks: 0,
-        parity_blocks: 0,
-    };
-    let mut tallies = [empty; MOST_MEMBERS];
-    for member in 0..MOST_MEMBERS {
-        tallies[member] = tally_of(geometry, member);
-    }
-    let mut cells = [[Cell(None); MOST_MEMBERS]; SHOWN];
-    for stripe in 0..SHOWN {
-        cells[stripe] = cells_of(geometry, stripe);
-    }
-    Picture {
-        members: geometry.shape.members().get(),
-        stripes: geometry.shape.stripes(),
-        tallies,
-        cells,
+impl Picture {
+    /// What lies where in an array of this geometry.
+    pub fn new<L: Layout>(geometry: &Geometry<L>) -> Picture {
+        Picture {
+            members: geometry.shape.members().get(),
+            stripes: geometry.shape.stripes(),
+            tallies: array::from_fn(|member| Tally::new(geometry, member)),
+            cells: array::from_fn(|stripe| {
+                array::from_fn(|member| Cell::new(geometry, stripe, member))
+            }),
+        }
     }
 }
 
@@ -110,21 +99,24 @@ impl fmt::Display for Cell {
     }
 }
 
+impl fmt::Display for Tally {
+    fn fmt<W: fmt::Write>(&self, f: &mut fmt::Formatter<W>) -> fmt::Result {
+        write!(
+            f,
+            "{} data, {} parity",
+            self.data_blocks, self.parity_blocks
+        )
+    }
+}
+
 impl fmt::Display for Picture {
     fn fmt<W: fmt::Write>(&self, f: &mut fmt::Formatter<W>) -> fmt::Result {
-        for member in 0..self.members.min(MOST_MEMBERS) {
-            let tally = self.tallies[member];
-            let data_blocks = tally.data_blocks;
-            let parity_blocks = tally.parity_blocks;
-            writeln!(
-                f,
-                "member {member}: {data_blocks} data, {parity_blocks} parity"
-            )?;
+        for (member, tally) in self.tallies.iter().take(self.members).enumerate() {
+            writeln!(f, "member {member}: {tally}")?;
         }
-        for stripe in 0..self.stripes.min(SHOWN) {
+        for (stripe, cells) in self.cells.iter().take(self.stripes).enumerate() {
             write!(f, "stripe {stripe}:")?;
-            for member in 0..MOST_MEMBERS {
-                let cell = self.cells[stripe][member];
+            for cell in cells {
                 write!(f, "{cell}")?;
             }
             writeln!(f, "")?;
@@ -133,32 +125,33 @@ impl fmt::Display for Picture {
     }
 }
 
-impl fmt::Display for Summary {
+impl fmt::Display for Carried {
     fn fmt<W: fmt::Write>(&self, f: &mut fmt::Formatter<W>) -> fmt::Result {
-        let bytes = self.bytes;
-        let blocks = self.blocks;
-        writeln!(f, "{bytes} bytes read, {blocks} blocks")?;
-        let members = self.picture.members;
-        let stripes = self.picture.stripes;
-        let qualifier = self.qualifier;
-        writeln!(
-            f,
-            "{members} members, layout {qualifier}, {stripes} stripes"
-        )?;
-        let picture = self.picture;
-        write!(f, "{picture}")?;
-        let lost = self.lost;
-        let worked_out = self.worked_out;
+        let (lost, worked_out) = (self.lost, self.worked_out);
         writeln!(
             f,
             "member {lost} forgotten, {worked_out} blocks worked out of the others"
         )?;
-        let wrong = self.wrong;
-        writeln!(f, "{wrong} stripes with wrong parity")?;
-        if self.back {
-            write!(f, "all bytes came back")
+        writeln!(f, "{} stripes with wrong parity", self.wrong)?;
+        f.write_str(if self.back {
+            "all bytes came back"
         } else {
-            write!(f, "some bytes did not come back")
-        }
+            "some bytes did not come back"
+        })
+    }
+}
+
+impl fmt::Display for Summary {
+    fn fmt<W: fmt::Write>(&self, f: &mut fmt::Formatter<W>) -> fmt::Result {
+        let (bytes, blocks) = (self.bytes, self.blocks);
+        writeln!(f, "{bytes} bytes read, {blocks} blocks")?;
+        let Picture {
+            members,
+            stripes,
+            ..
+        } = self.picture;
+        let layout = self.layout;
+        writeln!(f, "{members} members, layout {layout}, {stripes} stripes")?;
+        write!(f, "{}{}", self.picture, self.carried)
     }
 }

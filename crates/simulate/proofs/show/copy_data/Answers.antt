@@ -8,12 +8,13 @@ use Rattle.simulate.proofs.show.copy_data.Goals as goal
 pub loop-position-preserved : goal.loop-position-preserved
 loop-position-preserved g c =
     let s = g.S.MemberStore.meaning c.args.store.now in
-    let m = members_of c.args.shape in
-    let w = stripe_at g.L.Layout.arrangement m c.args.stripe in
+    let stripe = c.args.stripe.now in
+    let m = members_of stripe.geometry.shape in
+    let w = stripe_at g.L.Layout.arrangement m stripe.number in
     let j = c.loop-position.position in
     let rows = c.loop-position.rows in
     let i = c.loop-position.invariant in
-    let at = c.data_place-at in
+    let at = c.data_address in
     let x = c.copy_current.new.into in
     let long : j < length rows = omega (arith, i.0) in
     let few : j < m - 1 = omega arith in (

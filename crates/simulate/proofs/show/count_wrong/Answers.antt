@@ -4,15 +4,16 @@ use Rattle.stripe_work.proofs.Scanning.{count_more}
 use Rattle.simulate.proofs.show.count_wrong.Goals as goal
 use Rattle.simulate.proofs.show.count_wrong.Goals.{then-not-is_right, else-not-is_right}
 
-pub loop-stripe-preserved : goal.loop-stripe-preserved
-loop-stripe-preserved g c =
+pub loop-number-preserved : goal.loop-number-preserved
+loop-number-preserved g c =
     let a = g.L.Layout.arrangement in
-    let m = members_of c.args.shape in
+    let shape = c.args.geometry.now.shape in
+    let m = members_of shape in
     let s = g.S.MemberStore.meaning c.args.store.now in
-    let k = c.loop-stripe.stripe in
-    let n = c.loop-stripe.wrong in
-    let i = c.loop-stripe.invariant in
-    let l : k < blocks_of c.args.shape = omega arith in
+    let k = c.loop-number.number in
+    let n = c.loop-number.wrong in
+    let i = c.loop-number.invariant in
+    let l : k < blocks_of shape = omega arith in
     elim c.if-not-is_right.branch [
       | then-not-is_right v ↦
           let wrong : false ≡ c.is_right.result = search rules in

@@ -6,8 +6,8 @@ use Rattle.simulate.proofs.current.WriteBufferCurrentBytes.copy_current.Goals as
 pub returns-in-None : goal.returns-in-None
 returns-in-None g c =
     let w = c.args.self.now in
-    let m = c.args.member in
-    let b = c.args.block in
+    let m = c.args.at.member in
+    let b = c.args.at.block in
     let x = c.copy_current.new.into in
     let P : Meaning → Type 0 = λ s. HasBlock s m b → x ≡ current s m b in
     under (vec_items w.held) (g.S.MemberStore.meaning w.below) m b x c.in-None.ensures (subst P (ap g.S.MemberStore.meaning c.below.ensures) c.copy_current.ensures)
