@@ -17,6 +17,8 @@ use geometry::layout::Layout;
 use intent_log::IntentLog;
 use member_store::MemberStore;
 
+// Kept: of one shape with the destage, since each call matches on the five states and changes the state in place; what they share is
+// `or_fall`.
 impl<S: MemberStore, G: IntentLog, L: Layout> Array<S, G, L> {
     /// Destages until idle, then bars the members. Answers the stripes written and the puts to the log.
     pub fn flush(&mut self, _permit: &ReadyPermit) -> Result<FlushCounts, ArrayRefusal>

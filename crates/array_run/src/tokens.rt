@@ -5,6 +5,7 @@ ghost use Rattle.array_run.specs.TokenCounts.{counts_of, no_tokens, Room};
 use array::tokens::{ReadyPermit, ResyncTicket, ShortPermit};
 use std::alloc::{AllocError, Global};
 
+// Kept: how far a call lets these grow stands in the contract of each call, since it compares two values, which no type does.
 /// Tickets and permits, each kind by itself. They must be handed in: `give_up_all` ends them.
 pub struct Tokens {
     pub(super) tickets: Vec<ResyncTicket>,

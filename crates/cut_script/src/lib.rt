@@ -68,6 +68,7 @@ pub fn run<S: MemberStore>(store: &mut S) -> Progress
     let mut barred = 0;
     for number in 1..=STORES {
         let place = place_of(number);
+        // Kept: a refusal ends the script, and is told with how far it came; it is no error of the run, so no `?` stands here.
         if let Err(e) = store.store(place, &[number; BLOCK_BYTES]) {
             return Progress {
                 made: number,

@@ -79,6 +79,7 @@ fn tell_slots(rt: &HostRuntime, store: &mut MemoryStore) -> anyhow::Result<()> {
 
 fn tell_ring(rt: &HostRuntime, store: MemoryStore) -> anyhow::Result<()> {
     let mut ring = RingLog::new(store);
+    // Kept: one refusal is told with a line of its own, and is no error of the program.
     match ring.power_on() {
         Ok(()) => {}
         Err(LogRefusal::TooSmall(members, blocks)) => {
