@@ -1,6 +1,10 @@
 -- Blocks and stripes in what a store holds now, and counts of named stripes.
-use Rattle.std.proofs.Common.{◌≡◌, ℕ, ◌+◌, ◌<◌, Bool, true, false, cond, List, Some, None, sym, refl, ap, ◌∙◌, subst, add-one}
+use Rattle.std.proofs.Common.{◌≡◌, ℕ, ◌+◌, ◌<◌, zero, suc, Bool, true, false, cond, List, length, Some, None, sym, refl, ap, ◌∙◌, subst, add-one, arith}
 use Rattle.std.proofs.lemmas.Bool.{false≢true}
+use Rattle.std.proofs.lemmas.List.FromFn.{sum_by-map-range_with_len_more}
+use Rattle.std.proofs.lemmas.List.Sums.{length-filter}
+use Rattle.std.proofs.lemmas.List.{map-id}
+use Rattle.std.specs.List.{filter, sum_by, count_by, range_with_len}
 use Rattle.geometry.specs.Layouts.{Arrangement, Lawful}
 use Rattle.stripe_work.specs.Stripe.{stripe_at, InStore}
 use Rattle.simulate.specs.Counts.{named_below}
@@ -33,9 +37,21 @@ in_store arrange m k s lawful e l =
       member = λ j h. (subst (P ((arrange m k).member j)) e (lawful.member_below j h), l);
     }
 
-pub named_more : (names : ℕ → Bool) (k n : ℕ) (b : Bool) → b ≡ names k → n ≡ named_below names k → n + cond b 1 0 ≡ named_below names (k + 1)
-named_more names k n b e h =
-    ap (λ (i : ℕ). i + cond b 1 0) h ∙ ap (λ q. named_below names k + cond q 1 0) e ∙ sym (ap (named_below names) (add-one k))
+module _ (names : ℕ → Bool) where
+  below : (n : ℕ) → count_by names (range_with_len 0 n) ≡ named_below names n
+  below zero = refl
+  below (suc k) =
+      let test : ℕ → ℕ = λ x. cond (names x) 1 0 in
+      let from_zero : 0 + k ≡ k = omega arith in
+      sym (ap (λ n. sum_by test (range_with_len 0 n)) (add-one k))
+      ∙ ap (sum_by test) (sym (map-id (range_with_len 0 (k + 1))))
+      ∙ sum_by-map-range_with_len_more test (λ (x : ℕ). x) 0 k k from_zero
+      ∙ ap (λ xs. sum_by test xs + test k) (map-id (range_with_len 0 k))
+      ∙ ap (λ (i : ℕ). i + test k) (below k)
+
+  -- how many of the first numbers pass the test
+  pub named : (n : ℕ) → length (filter names (range_with_len 0 n)) ≡ named_below names n
+  named n = length-filter names (range_with_len 0 n) ∙ below n
 
 -- the answer by power and record
 pub found : (on stands : Bool) (x k : ℕ) → cond on stands false ≡ true → (on ≡ true → k ≡ x) → Some k ≡ cond on (cond stands (Some x) None) None

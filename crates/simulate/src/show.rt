@@ -71,6 +71,7 @@ fn is_right<S: CurrentBytes, L: Layout>(store: &S, stripe: &Stripe<L>) -> bool
 fn count_wrong<S: CurrentBytes, L: Layout>(store: &S, geometry: &Geometry<L>) -> usize
     ensures { ((k : ℕ) → k < stripe_count (blocks_of geometry.now.shape) → InStore (stripe_at L.Layout.arrangement (members_of geometry.now.shape) k) (S.MemberStore.meaning store.now)) → result ≡ wrong_below L.Layout.arrangement (members_of geometry.now.shape) (S.MemberStore.meaning store.now) (stripe_count (blocks_of geometry.now.shape)) }
 {
+    // Kept: a `filter` does not tell its closure that the stripe is one of the array's, which `Stripe` asks for.
     let mut wrong = 0;
     for number in 0..geometry.shape.stripes() {
         let stripe = Stripe {
@@ -115,13 +116,8 @@ fn named_stripes<G: IntentLog>(log: &G, stripes: u32) -> Option<usize>
     if !has_record(log) {
         return None;
     }
-    let mut named = 0;
-    for stripe in 0..stripes {
-        if is_named(log, stripe) {
-            named += 1;
-        }
-    }
-    Some(named)
+    let named = (0..stripes).filter(|stripe| is_named(log, *stripe));
+    Some(named.count())
 }
 
 /// Looks at everything.

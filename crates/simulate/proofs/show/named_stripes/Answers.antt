@@ -1,23 +1,9 @@
-use Rattle.std.proofs.Common.{◌≡◌, true, false, sym, ap, ◌∙◌, add-zero, arith, rules}
+use Rattle.std.proofs.Common.{◌≡◌, true, false, sym, ◌∙◌, refl, arith, rules, tests}
+use Rattle.std.proofs.lemmas.Iterator.{YieldsList-from_range}
+use Rattle.std.proofs.lemmas.Iterator.Consumers.{YieldsList-from_filter, YieldsList-at, count_from_yields_List}
 use Rattle.simulate.specs.Counts.{named_below}
-use Rattle.simulate.proofs.Looks.{named_more, found, not_found}
+use Rattle.simulate.proofs.Looks.{named, found, not_found}
 use Rattle.simulate.proofs.show.named_stripes.Goals as goal
-use Rattle.simulate.proofs.show.named_stripes.Goals.{then-is_named, else-is_named}
-
-pub loop-stripe-preserved : goal.loop-stripe-preserved
-loop-stripe-preserved g c =
-    let names = (g.G.IntentLog.meaning c.args.log.now).standing.names in
-    let k = c.loop-stripe.stripe in
-    let n = c.loop-stripe.named in
-    let i = c.loop-stripe.invariant in
-    elim c.if-is_named.branch [
-      | then-is_named v ↦
-          let named : true ≡ c.is_named.result = search rules in
-          simp v.named-is (omega arith, λ s on. named_more names k n true (named ∙ c.is_named.ensures s on) (i.1 s on))
-      | else-is_named v ↦
-          let not_named : false ≡ c.is_named.result = search rules in
-          simp v.named-is (omega arith, λ s on. sym (add-zero n) ∙ named_more names k n false (not_named ∙ c.is_named.ensures s on) (i.1 s on))
-    ]
 
 pub returns-then-not-has_record : goal.returns-then-not-has_record
 returns-then-not-has_record g c s =
@@ -28,7 +14,8 @@ returns-then-not-has_record g c s =
 pub returns : goal.returns
 returns g c s =
     let l = g.G.IntentLog.meaning c.args.log.now in
+    let names = l.standing.names in
+    let n = c.args.stripes in
     let stands : c.has_record.result ≡ true = search rules in
-    let e : c.loop-stripe.stripe ≡ c.args.stripes = omega arith in
-    found l.on l.standing.stands (named_below l.standing.names c.args.stripes) c.loop-stripe.named
-    (sym (c.has_record.ensures s) ∙ stands) (λ on. c.loop-stripe.invariant.1 s on ∙ ap (named_below l.standing.names) e)
+    found l.on l.standing.stands (named_below names n) c.count.result (sym (c.has_record.ensures s) ∙ stands)
+    (λ on. count_from_yields_List c.filter-named.result _ c.count.ensures.ran (YieldsList-from_filter _ names (YieldsList-at c.filter-named.ensures.source (YieldsList-from_range 0 n n refl (omega arith))) c.filter-named.ensures.closure (λ x b q k. search (rules, tests))) ∙ named names n)
