@@ -7,4 +7,4 @@ abbrev pub invariant-loop-position : goal.invariant-loop-position
 invariant-loop-position g l =
     let s = g.S.MemberStore.meaning l.store in
     let w = stripe_at g.L.Layout.arrangement (members_of l.stripe.geometry.shape) l.stripe.number in
-    (length l.rows ≡ 7) × (InStore w s → take l.position l.rows ≡ listed (data_at w s) l.position)
+    (length l.row-items ≡ length l.initial.row-items) × (InStore w s → take l.position l.row-items ≡ listed (data_at w s) l.position)
