@@ -91,24 +91,27 @@ pub record Put (s : store.Meaning) (a : Bool) (kept o : Option FlagRecord) (r : 
   pub calls : Makes (put_calls o) s r t
   pub memory : Remembers o kept r new
 
-module _ {s t : store.Meaning} {a a' : Bool} {o kept new : Option FlagRecord} {r : Result (Unit {0}) LogRefusal} (p : Put s a kept o r t a' new) (h : Sound a s kept) where
+module _ (s t : store.Meaning) (a a' : Bool) (o kept new : Option FlagRecord) (at : HasBlock s 0 0) (pt : HasBlock t 0 0) (law : CurrentStands t) (on : (a && s.on) ≡ true) (aw : a' ≡ a) (h : Sound a s kept) (r : Result (Unit {0}) LogRefusal) (calls : Makes (put_calls o) s r t) where
+  powered : s.on ≡ true
+  powered = (and_parts a s.on on).1
+
   done : Puts s (flag_block o) r t
-  done = puts s o kept p.at (and_parts a s.on p.on).1 (h p.on) r t p.calls
+  done = puts s o kept at powered (h on) r t calls
 
   sound_by : (q : Result (Unit {0}) LogRefusal) → Puts s (flag_block o) q t → Remembers o kept q new → Sound a' t new
-  sound_by (Ok u) w m = λ _. record { single = w.single; same = m ∙ read_back o ∙ ap flag_record (sym w.here) }
-  sound_by (Err e) w m = λ z. absurd (both_ways (a' && t.on) (and_right a' t.on w.1.off) z)
+  sound_by (Ok u) p m = λ _. record { single = p.single; same = m ∙ read_back o ∙ ap flag_record (sym p.here) }
+  sound_by (Err e) p m = λ z. absurd (both_ways (a' && t.on) (and_right a' t.on p.1.off) z)
 
-  pub sound_after : Sound a' t new
-  sound_after = sound_by r done p.memory
+  pub sound_after : Remembers o kept r new → Sound a' t new
+  sound_after m = sound_by r done m
 
   changes_by : (checks : Option LogRefusal) (P Q : Standing → Type 0) (q : Result (Unit {0}) LogRefusal) → Puts s (flag_block o) q t → checks ≡ None → P (standing_of o) → Q (standing_of (flag_record (current s 0 0))) → Q (standing_of o) → Changes checks P Q (flag a s) q (flag a' t)
   changes_by checks P Q (Ok u) w n pn qo qn = (
     n,
     record {
-      on = and_from a' t.on (p.awake ∙ (and_parts a s.on p.on).0) w.on;
+      on = and_from a' t.on (aw ∙ (and_parts a s.on on).0) w.on;
       same_size = refl;
-      single = λ c k. let q = standing_from a' t p.still p.law c k in q.1.1 ∙ ap (λ v. standing_of (flag_record v)) (w.single q.0 q.1.0);
+      single = λ c k. let q = standing_from a' t pt law c k in q.1.1 ∙ ap (λ v. standing_of (flag_record v)) (w.single q.0 q.1.0);
       holds = subst (λ z. P (standing_of z)) (read_back o ∙ ap flag_record (sym w.here)) pn;
     },
   )
@@ -116,7 +119,7 @@ module _ {s t : store.Meaning} {a a' : Bool} {o kept new : Option FlagRecord} {r
       refused_went checks e (flag a' t ≡ flag a s) _ n w.0 (record {
         off = and_right a' t.on w.1.off;
         same_size = refl;
-        holds = λ c k. let q = standing_from a' t p.still p.law c k in subst Q (sym q.1.1) (⊎_elim (λ f. subst (λ v. Q (standing_of (flag_record v))) (sym f) qo) (λ f. subst (λ z. Q (standing_of z)) (read_back o ∙ ap flag_record (sym f)) qn) (w.1.either q.0 q.1.0));
+        holds = λ c k. let q = standing_from a' t pt law c k in subst Q (sym q.1.1) (⊎_elim (λ f. subst (λ v. Q (standing_of (flag_record v))) (sym f) qo) (λ f. subst (λ z. Q (standing_of z)) (read_back o ∙ ap flag_record (sym f)) qn) (w.1.either q.0 q.1.0));
       })
 
   pub changes : (checks : Option LogRefusal) (P Q : Standing → Type 0) → checks ≡ None → P (standing_of o) → Q (standing_of (flag_record (current s 0 0))) → Q (standing_of o) → Changes checks P Q (flag a s) r (flag a' t)
@@ -127,4 +130,4 @@ module _ {s t : store.Meaning} {a a' : Bool} {o kept new : Option FlagRecord} {r
   stands_by (Err e) w = tt
 
   pub own : (checks : Option LogRefusal) → checks ≡ None → MakesChange checks (put_calls o) (Stands t o) s r t
-  own checks n = makes_passed checks (put_calls o) (Stands t o) s r t n p.calls (stands_by r done)
+  own checks n = makes_passed checks (put_calls o) (Stands t o) s r t n calls (stands_by r done)

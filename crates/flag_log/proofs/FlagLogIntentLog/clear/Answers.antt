@@ -5,7 +5,7 @@ use Rattle.intent_log.specs.Meaning.{Standing}
 use Rattle.intent_log.specs.Calls.{Includes, NamesNothing, power_checks}
 use Rattle.flag_log.specs.Form.{flag_record}
 use Rattle.flag_log.specs.Flag.{standing_of, flag}
-use Rattle.flag_log.specs.Puts.{sound_after, changes, own}
+use Rattle.flag_log.proofs.Putting.{sound_after, changes, own}
 use Rattle.flag_log.proofs.FlagLogIntentLog.clear.Goals as goal
 
 pub returns : goal.returns

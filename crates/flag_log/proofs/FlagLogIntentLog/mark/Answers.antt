@@ -4,7 +4,7 @@ use Rattle.intent_log.specs.Meaning.{Standing}
 use Rattle.intent_log.specs.Calls.{Includes, NamesList, mark_checks}
 use Rattle.flag_log.specs.Form.{flag_record}
 use Rattle.flag_log.specs.Flag.{standing_of, flag, Sound}
-use Rattle.flag_log.specs.Puts.{sound_after, changes, own}
+use Rattle.flag_log.proofs.Putting.{sound_after, changes, own}
 use Rattle.flag_log.proofs.FlagLogIntentLog.mark.Goals as goal
 
 pub returns : goal.returns
