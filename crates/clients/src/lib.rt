@@ -51,7 +51,7 @@ pub fn open_and_write<S: MemberStore, G: IntentLog, L: Layout>(
     ensures { Sound S.MemberStore.meaning G.IntentLog.meaning G.IntentLog.sound array.old → Sound S.MemberStore.meaning G.IntentLog.meaning G.IntentLog.sound array.new }
 {
     let ticket = array.open()?;
-    // Kept: a token is handed in before a refusal goes up, here and below, so no `?` stands there.
+    // Kept: a token is handed in before a refusal goes up. Below, with `map_err` and a closure that hands it in, the proof did not close.
     if let Err(e) = resynchronize(array, &ticket) {
         array.give_up(ticket);
         return Err(e);

@@ -51,7 +51,7 @@ impl Book {
     pub fn new(heap: Global, blocks: usize) -> Result<Book, AllocError>
         ensures { IfOk result (λ b. (b.bases.items ≡ replicate blocks zeros) × (b.writes.items ≡ [])) }
     {
-        // Kept: `vec!` says what the blocks are only if an array's clone is that array, which its clone does not say.
+        // Kept: with `vec!` the proof did not close: it tells the blocks by what the clone of an array gives.
         let mut bases = Vec::new(heap);
         for _ in 0..blocks {
             bases.push(ZEROS)?;
@@ -112,7 +112,7 @@ impl Book {
         ensures bases { self.new.bases.items ≡ replicate (vec_len self.old.bases) zeros }
         ensures lists { self.new.writes.items ≡ [] }
     {
-        // Kept: `fill` says what the blocks are only if an array's clone is that array, which its clone does not say.
+        // Kept: with `fill` the proof did not close: it tells the blocks by what the clone of an array gives.
         for block in 0..self.bases.len() {
             self.rebase(block, ZEROS);
         }
