@@ -45,7 +45,7 @@ fn check_short<S: MemberStore, G: IntentLog, L: Layout>(
     ensures { ShortChecked L.Layout.arrangement (S.MemberStore.meaning store.now) (G.IntentLog.meaning log.now) (LogOn (G.IntentLog.sound log.now) (G.IntentLog.meaning log.now)) absent block length result }
 {
     let shape = check_block(store, block, length)?;
-    let at = address_of_block(&Geometry { layout, shape }, block);
+    let at = address_of_block(&Geometry { layout, shape }, block).unwrap();
     check_absent(log, absent, at)?;
     Ok(shape)
 }

@@ -1,6 +1,7 @@
 // Tickets and permits: each must be handed in. Only the array makes them, and only it can spend one.
 ghost use Rattle.std.specs.Prelude.{◌≡◌};
 
+pub use crate::refusal::FinishRefusal;
 use std::marker::PhantomData;
 
 /// A ticket or permit of one kind. It can be dropped only once the array has spent it.

@@ -1,5 +1,5 @@
 // Reading a block: from the caches, from its member, or worked out of the others.
-ghost use Rattle.std.specs.Prelude.{◌≡◌, ◌<◌, length, None as NoneOf};
+ghost use Rattle.std.specs.Prelude.{◌≡◌, ◌<◌, is_some, nat_lt, length, None as NoneOf, IfSome};
 ghost use Rattle.geometry.specs.Counts.{members_of, blocks_of};
 ghost use Rattle.geometry.specs.Places.{data_blocks};
 ghost use Rattle.stripe_work.specs.Answers.{address_check};
@@ -22,17 +22,27 @@ use geometry::shape::Shape;
 use member_store::{BLOCK_BYTES, MemberStore};
 use stripe_work::reconstruct::reconstruct_block;
 
+/// Where a block of the array lies, if the array has it.
+pub fn address_of_block<L: Layout>(geometry: &Geometry<L>, block: usize) -> Option<Address>
+    ensures allowed { is_some result ≡ nat_lt block (data_blocks (members_of geometry.now.shape) (blocks_of geometry.now.shape)) }
+    ensures member { IfSome result (λ at. at.member ≡ holder (sized L.Layout.arrangement geometry.now.shape) block) }
+    ensures block { IfSome result (λ at. at.block ≡ (stripe_of (sized L.Layout.arrangement geometry.now.shape) (home (sized L.Layout.arrangement geometry.now.shape) block)).block) }
+    ensures there { IfSome result (λ at. address_check (members_of geometry.now.shape) (blocks_of geometry.now.shape) at ≡ NoneOf) }
+    ensures small { IfSome result (λ at. at.block < 16777216) }
+{
+    geometry.data_address(block)
+}
+
 // Kept: the array's checks show a block's bound and a buffer's length just before; types for both would only be taken apart here.
 
-/// Where a block of the array lies.
-pub fn address_of_block<L: Layout>(geometry: &Geometry<L>, block: usize) -> Address
+// Where a block lies that the array has.
+fn held_address<L: Layout>(geometry: &Geometry<L>, block: usize) -> Address
     requires { block < data_blocks (members_of geometry.now.shape) (blocks_of geometry.now.shape) }
     ensures member { result.member ≡ holder (sized L.Layout.arrangement geometry.now.shape) block }
     ensures block { result.block ≡ (stripe_of (sized L.Layout.arrangement geometry.now.shape) (home (sized L.Layout.arrangement geometry.now.shape) block)).block }
     ensures there { address_check (members_of geometry.now.shape) (blocks_of geometry.now.shape) result ≡ NoneOf }
-    ensures small { result.block < 16777216 }
 {
-    geometry.data_address(block).unwrap()
+    address_of_block(geometry, block).unwrap()
 }
 
 // Reads a block from the member that has it.
@@ -45,7 +55,7 @@ fn read_held<S: MemberStore, L: Layout>(
     requires { (block < data_blocks (members_of geometry.now.shape) (blocks_of geometry.now.shape)) × (length into.old ≡ 512) }
     ensures { Fetched (read_calls (sized L.Layout.arrangement geometry.now.shape) block) (held (sized L.Layout.arrangement geometry.now.shape) (S.MemberStore.meaning store.old) block) into.old into.new (S.MemberStore.meaning store.old) result (S.MemberStore.meaning store.new) }
 {
-    let at = address_of_block(geometry, block);
+    let at = held_address(geometry, block);
     store.read(at, into)?;
     Ok(())
 }
@@ -96,7 +106,7 @@ pub fn read_without<S: MemberStore, L: Layout>(
     requires { (block < data_blocks (members_of geometry.now.shape) (blocks_of geometry.now.shape)) × (length into.old ≡ 512) }
     ensures { (q : State) (c : Contents) (l : LogMeaning) → ReadsWithout (sized L.Layout.arrangement geometry.now.shape) absent block into.old into.new (array_of q c (S.MemberStore.meaning store.old) l) result (array_of (state_after q result) c (S.MemberStore.meaning store.new) l) }
 {
-    let at = address_of_block(geometry, block);
+    let at = held_address(geometry, block);
     if at.member == absent {
         return read_missing(store, geometry, at, into);
     }

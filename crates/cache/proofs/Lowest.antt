@@ -12,7 +12,7 @@ use Rattle.cache.specs.declared.slot.CachedBlock.{CachedBlock}
 use Rattle.cache.specs.Contents.{Blocks, one_if}
 use Rattle.cache.specs.Stripes.{stripe_of_block, HasStripe, Lowest, Listed}
 use Rattle.cache.specs.Slots.{Slot, same, blocks}
-use Rattle.cache.specs.Searches.{slot_stripe, LowestFrom}
+use Rattle.cache.specs.Searches.{slot_stripe, LowestFrom, lower}
 use Rattle.cache.proofs.Places.{number_from_place, none≢some, some_injective}
 
 -- a number of a list, and the least of them
@@ -42,6 +42,15 @@ lowest_of P n (y ∷ ys) from to =
     let r = least y ys in
     let one = ⊎_elim (λ (e : fold min y ys ≡ y). subst (λ (i : ℕ). (n ≤ i) × P i) (sym e) (from y (inl refl))) (λ w. from (fold min y ys) (inr w)) r.one in
     (one.0, one.1, λ s z l. ⊎_elim (λ e. let f = r.first in omega arith) (λ w. r.others s w) (to s z l))
+
+-- the lower of each number and those before it is the least of all
+lower_some : (a : ℕ) (ys : List ℕ) → fold (λ t s. Some (lower t s)) (Some a) ys ≡ Some (fold min a ys)
+lower_some a [] = refl
+lower_some a (y ∷ ys) = lower_some (min a y) ys
+
+pub lower_all : (ys : List ℕ) → fold (λ t s. Some (lower t s)) None ys ≡ reduce min ys
+lower_all [] = refl
+lower_all (y ∷ ys) = lower_some y ys
 
 -- a slot has number s
 module _ {A : Type 0} (g : A → Option ℕ) where

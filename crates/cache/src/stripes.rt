@@ -1,10 +1,10 @@
 // The stripes of a cache.
 // Kept: clauses give both counts of a shape, since the definitions also serve models that have no Shape.
-ghost use Rattle.std.specs.Prelude.{◌≡◌, ◌<◌};
+ghost use Rattle.std.specs.Prelude.{◌≡◌, ◌<◌, Some};
 ghost use Rattle.geometry.specs.Counts.{members_of, blocks_of};
 ghost use Rattle.cache.specs.Stripes.{HasStripe, Listed};
 ghost use Rattle.cache.specs.Slots.{blocks};
-ghost use Rattle.cache.specs.Searches.{slot_stripe as stripe_of_slot, LowestFrom};
+ghost use Rattle.cache.specs.Searches.{slot_stripe as stripe_of_slot, LowestFrom, lower};
 ghost use Rattle.cache.specs.Meaning.{listed};
 
 use crate::caches::Caches;
@@ -23,6 +23,16 @@ pub(super) fn slot_stripe(slot: &Slot, cache: Cache, shape: Shape) -> Option<usi
     Some(shape.locate(cached.block)?.stripe)
 }
 
+// The lower of two stripes, of which the first may be none.
+fn lower_stripe(lowest: Option<usize>, stripe: usize) -> Option<usize>
+    ensures { result ≡ Some (lower lowest stripe) }
+{
+    match lowest {
+        Some(lowest) => Some(lowest.min(stripe)),
+        None => Some(stripe),
+    }
+}
+
 impl Caches {
     // The lowest stripe from `from` on that has a block in a cache.
     pub(super) fn next_stripe(&self, cache: Cache, shape: Shape, from: usize) -> Option<usize>
@@ -32,7 +42,7 @@ impl Caches {
             .iter()
             .filter_map(|slot| slot_stripe(slot, cache, shape))
             .filter(|stripe| from <= *stripe)
-            .min()
+            .fold(None, lower_stripe)
     }
 
     // All stripes that have a block in a cache.

@@ -1,9 +1,9 @@
 //! The flag log: one block that says whether any stripe may have been written to.
 #![tactic(auto)]
 
-ghost use Rattle.std.specs.Prelude.{◌≡◌, true, false, ◌&&◌};
+ghost use Rattle.std.specs.Prelude.{◌≡◌, true, false, ◌&&◌, if◌then◌else◌, None};
 ghost use Rattle.std.proofs.Common.{◌∙◌, ap, rules};
-ghost use Rattle.flag_log.specs.Form.{every, flag_block, flag_record};
+ghost use Rattle.flag_log.specs.Form.{every, flag_block, byte_record, flag_record};
 ghost use Rattle.flag_log.specs.Flag.{flag as meant, Sound, standing_of};
 ghost use Rattle.flag_log.specs.Own.{OwnMark, OwnFresh, OwnClear, OwnBlank, OwnPower, Shows};
 ghost use Rattle.flag_log.specs.Puts.{Put, first_block, standing_from};
@@ -34,14 +34,21 @@ fn block_of(flag: Option<FlagRecord>) -> [u8; BLOCK_BYTES]
     bytes
 }
 
+// The record that a first byte says, where the other bytes are zero.
+fn record_of(first: u8, padded: bool) -> Option<FlagRecord>
+    ensures { result ≡ (if padded then byte_record first else None) }
+{
+    if !padded {
+        return None;
+    }
+    FlagRecord::try_from(first).ok()
+}
+
 // The record that a block holds, if any.
 fn record_in(bytes: &[u8; BLOCK_BYTES]) -> Option<FlagRecord>
     ensures { result ≡ flag_record bytes.now }
 {
-    if !all_zero(&bytes[1..]) {
-        return None;
-    }
-    FlagRecord::try_from(bytes[0]).ok()
+    record_of(bytes[0], all_zero(&bytes[1..]))
 }
 
 impl<S: MemberStore> FlagLog<S> {

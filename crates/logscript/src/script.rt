@@ -93,7 +93,7 @@ impl Script {
         Ok(Script {
             kind: head.kind,
             buffered: false,
-            memory: zeros(heap, head.members, head.blocks)?,
+            memory: zeros(heap, head.members, head.blocks)?.ok_or(AllocError)?,
             commands: Vec::new(heap),
             settings: Vec::new(heap),
             cut: None,

@@ -5,7 +5,7 @@ ghost use Rattle.std.specs.Prelude.{◌≡◌, ℕ, ◌≤◌, List, length, Som
 ghost use Rattle.member_store.specs.declared.refusal.Refusal.{Refusal as Cause};
 ghost use Rattle.member_store.specs.Meaning.{Meaning, current, Version, HasBlock};
 ghost use Rattle.member_store.specs.Refusals.{number as number_of, place as place_of};
-ghost use Rattle.member_store.specs.Calls.{checks, Reads, Stores, Bars, PoweredOn};
+ghost use Rattle.member_store.specs.Calls.{checked, checks, Reads, Stores, Bars, PoweredOn};
 
 pub mod refusal;
 pub mod text;
@@ -39,6 +39,32 @@ impl Refusal {
     }
 }
 
+/// The checks that every store makes before a read or a store of `len` bytes: power, member, block, length.
+pub fn first_refusal(
+    on: bool,
+    members: usize,
+    blocks: usize,
+    member: usize,
+    block: usize,
+    len: usize,
+) -> Option<Refusal>
+    ensures { result ≡ checked on members blocks member block len }
+{
+    if !on {
+        return Some(Refusal::PowerOff(Some(Address { member, block })));
+    }
+    if member >= members {
+        return Some(Refusal::NoMember(member));
+    }
+    if block >= blocks {
+        return Some(Refusal::NoBlock(block));
+    }
+    if len != BLOCK_BYTES {
+        return Some(Refusal::WrongLength(len));
+    }
+    None
+}
+
 /// The disks of a box: members with the same number of blocks, which keep several versions of a block until a barrier.
 pub trait MemberStore {
     ghost meaning: { Self → Meaning };
@@ -68,19 +94,15 @@ pub trait MemberStore {
     fn check_access(&self, at: Address, len: usize) -> Result<(), Refusal>
         ensures { MatchResult result (λ _. checks (meaning self.now) at.member at.block len ≡ None) (λ e. checks (meaning self.now) at.member at.block len ≡ Some e) }
     {
-        if !self.powered() {
-            return Err(Refusal::PowerOff(Some(at)));
-        }
-        if at.member >= self.members() {
-            return Err(Refusal::NoMember(at.member));
-        }
-        if at.block >= self.blocks() {
-            return Err(Refusal::NoBlock(at.block));
-        }
-        if len != BLOCK_BYTES {
-            return Err(Refusal::WrongLength(len));
-        }
-        Ok(())
+        let refusal = first_refusal(
+            self.powered(),
+            self.members(),
+            self.blocks(),
+            at.member,
+            at.block,
+            len,
+        );
+        refusal.map_or(Ok(()), Err)
     }
 
     /// Copies the current bytes of a block into `into`, which a refusal leaves as it was.

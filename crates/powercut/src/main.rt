@@ -30,7 +30,7 @@ fn setting(rt: &HostRuntime) -> anyhow::Result<usize> {
 
 // Runs the script on members of zeros, of which `left` stores and barriers reach them.
 fn cut(heap: Global, left: usize) -> anyhow::Result<Report> {
-    let memory = zeros(heap, MEMBERS, BLOCKS)?;
+    let memory = zeros(heap, MEMBERS, BLOCKS)?.context("no memory store")?;
     let mut store = WriteBuffer::new(heap, Fuse::new(memory, Some(left)))
         .ok()
         .context("no memory for the write buffer")?;

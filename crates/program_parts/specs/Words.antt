@@ -4,6 +4,8 @@ use Rattle.program_parts.specs.declared.log_kind.LogKind.{LogKind}
 use Rattle.program_parts.specs.declared.log_kind.LogKind.TheVariants.{Ring, Flag}
 use Rattle.program_parts.specs.declared.layout_kind.LayoutKind.{LayoutKind}
 use Rattle.program_parts.specs.declared.layout_kind.LayoutKind.TheVariants.{RightAsymmetric, LeftAsymmetric, LeftSymmetric}
+use Rattle.program_parts.specs.declared.line_error.LineError.{LineError}
+use Rattle.program_parts.specs.declared.line_error.LineError.TheVariants.{NoForm, OutOfMemory}
 use Rattle.program_parts.specs.declared.side.Side.{Side}
 use Rattle.program_parts.specs.declared.side.Side.TheVariants.{Members, Log}
 
@@ -24,3 +26,11 @@ abbrev pub qualifier : LayoutKind → List ℕ
 qualifier RightAsymmetric = codes "0"
 qualifier LeftAsymmetric = codes "2"
 qualifier LeftSymmetric = codes "3"
+
+-- What is said of a text of no form, and of a line that is not taken.
+abbrev pub no_form_text : List ℕ
+no_form_text = codes "no such form"
+
+abbrev pub line_error_text : LineError → List ℕ
+line_error_text NoForm = no_form_text
+line_error_text OutOfMemory = codes "memory allocation failed"

@@ -1,5 +1,6 @@
 // Why words and lines are not taken.
-ghost use Rattle.std.specs.Prelude.{◌≡◌};
+ghost use Rattle.std.specs.Prelude.{◌≡◌, Some};
+ghost use Rattle.program_parts.specs.Words.{no_form_text, line_error_text};
 ghost use Rattle.program_parts.specs.declared.line_error.LineError.TheVariants.{NoForm as LineOfNoForm, OutOfMemory};
 
 use std::alloc::{AllocError, AllocFailed};
@@ -18,6 +19,8 @@ pub enum LineError {
 }
 
 impl fmt::Display for NoForm {
+    ghost output = { λ _. Some no_form_text };
+
     fn fmt<W: fmt::Write>(&self, f: &mut fmt::Formatter<W>) -> fmt::Result {
         f.write_str("no such form")
     }
@@ -26,6 +29,8 @@ impl fmt::Display for NoForm {
 impl Error for NoForm {}
 
 impl fmt::Display for LineError {
+    ghost output = { λ e. Some (line_error_text e) };
+
     fn fmt<W: fmt::Write>(&self, f: &mut fmt::Formatter<W>) -> fmt::Result {
         f.write_str(match self {
             Self::NoForm => "no such form",

@@ -1,5 +1,5 @@
 // The disks below an array or a log: a write buffer over a fuse over memory, and a look at what they hold.
-ghost use Rattle.std.specs.Prelude.{◌≡◌, ◌*◌, ◌^◌, ◌<◌, [], ◌∷◌, IfOk, None as Unset};
+ghost use Rattle.std.specs.Prelude.{◌≡◌, [], ◌∷◌, IfOk, None as Unset};
 ghost use Rattle.memory_store.specs.Memory.{memory_means};
 ghost use Rattle.sheet_parity.specs.Right.{AllRight};
 
@@ -35,12 +35,8 @@ pub fn new_disks(
     members: usize,
     blocks: usize,
     settings: Settings,
-) -> anyhow::Result<Disks>
-    requires members { 0 < members }
-    requires blocks { 0 < blocks }
-    requires size { members * blocks * 512 < 2 ^ 64 }
-{
-    let memory = zeros(heap, members, blocks)?;
+) -> anyhow::Result<Disks> {
+    let memory = zeros(heap, members, blocks)?.context("no memory store")?;
     let fuse = FuseSeries::new(memory, series(heap, settings)?);
     WriteBuffer::new(heap, fuse)
         .ok()

@@ -51,7 +51,7 @@ fn copy_data<S: CurrentBytes, L: Layout>(
     ensures { InStore (stripe_at L.Layout.arrangement (members_of stripe.now.geometry.shape) stripe.now.number) (S.MemberStore.meaning store.now) → take (members_of stripe.now.geometry.shape - 1) rows.new ≡ stripe_data (stripe_at L.Layout.arrangement (members_of stripe.now.geometry.shape) stripe.now.number) (S.MemberStore.meaning store.now) }
 {
     for (position, row) in rows[..stripe.positions()].iter_mut().enumerate() {
-        store.copy_current(stripe.data_address(position), row);
+        store.copy_current(stripe.data_address(position).unwrap(), row);
     }
 }
 

@@ -82,7 +82,7 @@ impl<'a> Play<'a> {
 
 // Disks of zeros, under a fuse that the switch sets.
 fn fused(heap: Global, counts: Counts, switch: &FuseSwitch) -> Result<Fused, AllocError> {
-    let memory = zeros(heap, counts.members, counts.blocks)?;
+    let memory = zeros(heap, counts.members, counts.blocks)?.ok_or(AllocError)?;
     Ok(RemoteFuse::new(memory, switch.clone()?))
 }
 

@@ -20,10 +20,15 @@ pub fn blocks_for(bytes: usize) -> usize {
 
 // A block of the file, filled up with zeros.
 fn file_block(file: &[u8], block: usize) -> [u8; BLOCK_BYTES] {
+    let (whole, rest) = file.as_chunks::<512>();
+    if let Some(bytes) = whole.get(block) {
+        return *bytes;
+    }
     let mut bytes = [0u8; BLOCK_BYTES];
-    let held = file.chunks(BLOCK_BYTES).nth(block).unwrap_or(&[]);
-    for (byte, from) in bytes.iter_mut().zip(held) {
-        *byte = *from;
+    if block == whole.len() {
+        for (byte, from) in bytes.iter_mut().zip(rest) {
+            *byte = *from;
+        }
     }
     bytes
 }

@@ -56,7 +56,9 @@ fn summarize<L: Layout>(
 ) -> anyhow::Result<Summary> {
     let blocks = carry::blocks_for(file.len());
     let shape = shape_for(order.members, blocks).context("the array would be too large")?;
-    let mut store = zeros(heap, shape.members().get(), shape.blocks())?;
+    let mut store = zeros(heap, shape.members().get(), shape.blocks())?.context(
+        "there is no memory for the members",
+    )?;
     let geometry = Geometry { layout, shape };
     let carried = carry_over(&mut store, &geometry, order.lost, file)
         .ok()

@@ -1,5 +1,5 @@
 -- The device calls of the work on a stripe, in their order.
-use Rattle.std.specs.Prelude.{ℕ, zero, suc, ◌+◌, cond, List, [], ◌∷◌, ◌++◌, Some, None, Option, ◌==◌, slice_index_or}
+use Rattle.std.specs.Prelude.{ℕ, zero, suc, ◌+◌, Bool, false, cond, List, [], ◌∷◌, ◌++◌, Some, None, Option, ◌==◌, slice_index_or}
 use Rattle.parity.specs.Xor.{parity_of, without}
 use Rattle.geometry.specs.Layouts.{Arrangement}
 use Rattle.geometry.specs.Places.{stripes}
@@ -16,6 +16,10 @@ none_cached j = None
 
 abbrev pub cached_in : List (Option (List ℕ)) → CachedBlocks
 cached_in blocks j = slice_index_or blocks j None
+
+-- By rows, and which of them hold a cached block.
+abbrev pub held_in : List Bool → List (List ℕ) → CachedBlocks
+held_in held rows j = cond (slice_index_or held j false) (Some (slice_index_or rows j [])) None
 
 -- The cached block of a position, else the one that the stripe holds there; and all data so merged, by position.
 abbrev pub or_else : Option (List ℕ) → List ℕ → List ℕ

@@ -1,5 +1,5 @@
 // A stripe that an array has, and where its blocks lie.
-ghost use Rattle.std.specs.Prelude.{◌≡◌, ℕ, ◌-◌, ◌<◌, ◌≤◌, is_ok, nat_lt, MatchResult};
+ghost use Rattle.std.specs.Prelude.{◌≡◌, ℕ, ◌-◌, ◌<◌, ◌≤◌, is_ok, nat_lt, Some, None, MatchResult};
 ghost use Rattle.geometry.specs.Counts.{members_of, blocks_of};
 ghost use Rattle.geometry.specs.Places.{stripes as stripe_count, block_of_stripe};
 
@@ -42,16 +42,14 @@ impl<'a, L: Layout> Stripe<'a, L> {
         self.geometry.shape.members().positions()
     }
 
-    /// The member and the block on it of the data at a position.
-    pub fn data_address(&self, position: usize) -> Address
-        requires { position < members_of self.now.geometry.shape - 1 }
-        ensures member { result.member ≡ (L.Layout.arrangement (members_of self.now.geometry.shape) self.now.number).member position }
-        ensures block { result.block ≡ block_of_stripe self.now.number }
+    /// The member and the block on it of the data at a position, if the stripe has it.
+    pub fn data_address(&self, position: usize) -> Option<Address>
+        ensures held { position < members_of self.now.geometry.shape - 1 → result ≡ Some (record { member = (L.Layout.arrangement (members_of self.now.geometry.shape) self.now.number).member position; block = block_of_stripe self.now.number }) }
+        ensures past { members_of self.now.geometry.shape - 1 ≤ position → result ≡ None }
     {
         let stripe = self.number;
         self.geometry
             .position_address(Location { stripe, position })
-            .unwrap()
     }
 
     /// The member and the block on it of the parity.

@@ -8,7 +8,7 @@ use Rattle.array_work.proofs.read.read_held.Goals as goal
 pub returns-in_err-read : goal.returns-in_err-read
 returns-in_err-read g c =
     let a = sized g.L.Layout.arrangement c.args.geometry.now.shape in
-    let at = c.address_of_block-at.result in
+    let at = c.held_address-at.result in
     let h = c.in_err-read.ensures.means in
     let p = err_from_is_err_and c.from_residual.result c.from_residual.ensures.1 in
     rw (p.1, p.2) (
@@ -16,7 +16,7 @@ returns-in_err-read g c =
         _,
         refl,
         unread at.member at.block (holder a c.args.block) (stripe a (home a c.args.block)).block c.args.into.now c.read.new.into (g.S.MemberStore.meaning c.args.store.now) _ (g.S.MemberStore.meaning c.read.new.self)
-            c.address_of_block-at.ensures.member c.address_of_block-at.ensures.block c.requires.1 h,
+            c.held_address-at.ensures.member c.held_address-at.ensures.block c.requires.1 h,
         refl,
       ),
       h.0,

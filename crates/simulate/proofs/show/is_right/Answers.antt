@@ -1,4 +1,4 @@
-use Rattle.std.proofs.Common.{◌≡◌, ℕ, ◌-◌, take, refl, ap, ◌∙◌}
+use Rattle.std.proofs.Common.{◌≡◌, ℕ, ◌-◌, take, length-take, refl, ap, ◌∙◌, arith}
 use Rattle.std.proofs.lemmas.Slice.Eq.{slice_eq-Decides}
 use Rattle.geometry.specs.Counts.{members_of}
 use Rattle.parity.specs.Xor.{parity_of}
@@ -18,6 +18,6 @@ returns g c h =
     let a = at.result.member in
     let b = at.result.block in
     let count : c.positions.result ≡ m - 1 = c.positions.ensures.value in
-    let sum = c.parity_of_rows-sum.ensures ∙ ap (λ (n : ℕ). parity_of (take n c.copy_data.new.rows)) count ∙ ap parity_of (c.copy_data.ensures h) in
+    let sum = c.parity_of_rows-sum.ensures.value (omega (arith, length-take c.positions.result c.copy_data.new.rows)) (omega (arith, length-take c.positions.result c.copy_data.new.rows)) ∙ ap (λ (n : ℕ). parity_of (take n c.copy_data.new.rows)) count ∙ ap parity_of (c.copy_data.ensures h) in
     let found = c.copy_current.ensures (has_place s a b w.parity w.block at.ensures.member at.ensures.block h.parity) in
     decided w s c.copy_current.new.into c.parity_of_rows-sum.result c.eq.result a b s (slice_eq-Decides Decides-eqb _ _ _ c.eq.ensures) refl at.ensures.member at.ensures.block found sum

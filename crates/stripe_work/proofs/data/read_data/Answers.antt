@@ -32,11 +32,11 @@ loop-position-preserved g c =
           )
       | in-None+in_ok-read_block-in-None v ↦
           let r = v.in_ok-read_block-in-None.ensures in
-          let a = v.data_address.ensures in
-          let got : v.read_block.new.into ≡ data_at w s j = r.bytes.0 ∙ ap (λ u. current u v.data_address.result.member v.data_address.result.block) i.0 ∙ ap (λ (m : ℕ). current s m v.data_address.result.block) a.member ∙ ap (λ (b : ℕ). current s (w.member j) b) a.block in
+          let a = v.held_address.ensures in
+          let got : v.read_block.new.into ≡ data_at w s j = r.bytes.0 ∙ ap (λ u. current u v.held_address.result.member v.held_address.result.block) i.0 ∙ ap (λ (m : ℕ). current s m v.held_address.result.block) a.member ∙ ap (λ (b : ℕ). current s (w.member j) b) a.block in
           simp (v.store-is, v.rows-is) (
             r.bytes.1 ∙ i.0,
-            more_read w k s j v.data_address.result.member v.data_address.result.block (g.S.MemberStore.meaning c.loop-position.store) (g.S.MemberStore.meaning v.read_block.new.store) (sym same ∙ v.in-None.is) a.member a.block i.0 r.bytes.1 r.calls i.1,
+            more_read w k s j v.held_address.result.member v.held_address.result.block (g.S.MemberStore.meaning c.loop-position.store) (g.S.MemberStore.meaning v.read_block.new.store) (sym same ∙ v.in-None.is) a.member a.block i.0 r.bytes.1 r.calls i.1,
             search rules,
             row_more (merged w k s) c.loop-position.rows j v.read_block.new.into long i.3 (got ∙ merged_read w k s j (sym same ∙ v.in-None.is)),
           )
@@ -49,9 +49,9 @@ returns-in_err-read_block-in-None-clause-calls g c =
     let k = cached_in c.args.cached.now in
     let same = get_or-take c.positions.result c.args.cached.now c.loop-position.position None (omega arith) in
     let l : c.loop-position.position < members_of c.args.stripe.now.geometry.shape - 1 = omega arith in
-    let d = stop_read w k s c.loop-position.position (members_of c.args.stripe.now.geometry.shape - 1) c.data_address.result.member c.data_address.result.block
+    let d = stop_read w k s c.loop-position.position (members_of c.args.stripe.now.geometry.shape - 1) c.held_address.result.member c.held_address.result.block
     (g.S.MemberStore.meaning c.loop-position.store) (g.S.MemberStore.meaning c.read_block.new.store) c.in_err-read_block-in-None.field-0.0
-    l (sym same ∙ c.in-None.is) c.data_address.ensures.member c.data_address.ensures.block c.loop-position.invariant.0 c.in_err-read_block-in-None.ensures.calls c.loop-position.invariant.1 in
+    l (sym same ∙ c.in-None.is) c.held_address.ensures.member c.held_address.ensures.block c.loop-position.invariant.0 c.in_err-read_block-in-None.ensures.calls c.loop-position.invariant.1 in
     let r : c.from_residual.result ≡ Err c.in_err-read_block-in-None.field-0.0 = search rules in
     rw r d
 

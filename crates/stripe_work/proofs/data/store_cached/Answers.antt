@@ -18,8 +18,8 @@ loop-position-preserved g c =
     elim c.match-block.branch [
       | in-Some+in_ok-store_block v ↦
           simp v.store-is
-          (more_store w k s j v.data_address.result.member v.data_address.result.block v.in-Some.block (g.S.MemberStore.meaning c.loop-position.store) (g.S.MemberStore.meaning v.store_block.new.store)
-          (sym same ∙ v.in-Some.is) v.data_address.ensures.member v.data_address.ensures.block v.in_ok-store_block.ensures c.loop-position.invariant)
+          (more_store w k s j v.held_address.result.member v.held_address.result.block v.in-Some.block (g.S.MemberStore.meaning c.loop-position.store) (g.S.MemberStore.meaning v.store_block.new.store)
+          (sym same ∙ v.in-Some.is) v.held_address.ensures.member v.held_address.ensures.block v.in_ok-store_block.ensures c.loop-position.invariant)
       | in_default v ↦
           let none : get_or (take c.positions.result c.args.cached.now) j None ≡ None = search rules in
           simp v.store-is (pass_store w k s j (g.S.MemberStore.meaning c.loop-position.store) (sym same ∙ none) c.loop-position.invariant)
@@ -33,9 +33,9 @@ returns-in_err-store_block g c =
     let same = get_or-take c.positions.result c.args.cached.now c.loop-position.position None (omega arith) in
     let l : c.loop-position.position < members_of c.args.stripe.now.geometry.shape - 1 = omega arith in
     let r : c.from_residual.result ≡ Err c.in_err-store_block.field-0.0 = search rules in
-    rw r (stop_store w k s c.loop-position.position (members_of c.args.stripe.now.geometry.shape - 1) c.data_address.result.member c.data_address.result.block c.in-Some.block
+    rw r (stop_store w k s c.loop-position.position (members_of c.args.stripe.now.geometry.shape - 1) c.held_address.result.member c.held_address.result.block c.in-Some.block
     (g.S.MemberStore.meaning c.loop-position.store) (g.S.MemberStore.meaning c.store_block.new.store) c.in_err-store_block.field-0.0
-    l (sym same ∙ c.in-Some.is) c.data_address.ensures.member c.data_address.ensures.block c.in_err-store_block.ensures c.loop-position.invariant)
+    l (sym same ∙ c.in-Some.is) c.held_address.ensures.member c.held_address.ensures.block c.in_err-store_block.ensures c.loop-position.invariant)
 
 pub returns : goal.returns
 returns g c =

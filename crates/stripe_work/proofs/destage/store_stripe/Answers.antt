@@ -1,4 +1,4 @@
-use Rattle.std.proofs.Common.{Err, ◌≡◌, ℕ, ◌-◌, take, ap, ◌∙◌, arith, rules}
+use Rattle.std.proofs.Common.{Err, ◌≡◌, ℕ, ◌-◌, take, length-take, ap, ◌∙◌, arith, rules}
 use Rattle.geometry.specs.Counts.{members_of}
 use Rattle.parity.specs.Xor.{parity_of}
 use Rattle.stripe_work.specs.Stripe.{stripe_at}
@@ -21,7 +21,7 @@ returns-in_err-store_cached g c =
 pub returns : goal.returns
 returns g c =
     let count : c.positions.result ≡ members_of c.args.stripe.now.geometry.shape - 1 = omega arith in
-    let sum = c.parity_of_rows-sum.ensures ∙ ap (λ (n : ℕ). parity_of (take n c.read_data.new.rows)) count ∙ ap parity_of c.in_ok-read_data.ensures.rows in
+    let sum = c.parity_of_rows-sum.ensures.value (omega (arith, length-take c.positions.result c.read_data.new.rows)) (omega (arith, length-take c.positions.result c.read_data.new.rows)) ∙ ap (λ (n : ℕ). parity_of (take n c.read_data.new.rows)) count ∙ ap parity_of c.in_ok-read_data.ensures.rows in
     destage_ends (stripe_at g.L.Layout.arrangement (members_of c.args.stripe.now.geometry.shape) c.args.stripe.now.number) (cached_in c.args.cached.now) (g.S.MemberStore.meaning c.args.store.now)
     c.parity_address.result.member c.parity_address.result.block c.parity_of_rows-sum.result
     (g.S.MemberStore.meaning c.read_data.new.store) (g.S.MemberStore.meaning c.store_cached.new.store) (g.S.MemberStore.meaning c.store_block.new.store) c.store_block.result

@@ -1,4 +1,4 @@
-use Rattle.std.proofs.Common.{◌≡◌, ℕ, take, Ok, Err, refl, ap, ◌∙◌, rules}
+use Rattle.std.proofs.Common.{◌≡◌, ℕ, take, length-take, Ok, Err, refl, ap, ◌∙◌, arith, rules}
 use Rattle.std.specs.Bool.{then_some}
 use Rattle.std.proofs.lemmas.Bool.Decides.{Decides-eqb}
 use Rattle.std.proofs.lemmas.Slice.Eq.{slice_eq-Decides}
@@ -32,7 +32,7 @@ returns g c =
     let r = c.in_ok-read_data.ensures in
     let a = c.parity_address in
     let k = c.in_ok-read_block.ensures in
-    let sum = c.parity_of_rows-parity.ensures ∙ ap (λ (n : ℕ). parity_of (take n c.read_data.new.rows)) c.positions.ensures.value ∙ ap parity_of (r.rows ∙ same_data w 7 s) in
+    let sum = c.parity_of_rows-parity.ensures.value (omega (arith, length-take c.positions.result c.read_data.new.rows)) (omega (arith, length-take c.positions.result c.read_data.new.rows)) ∙ ap (λ (n : ℕ). parity_of (take n c.read_data.new.rows)) c.positions.ensures.value ∙ ap parity_of (r.rows ∙ same_data w 7 s) in
     record {
       calls = check_ends w s {U = Unit {0}} a.result.member a.result.block u t (Ok tt) r.calls a.ensures.member a.ensures.block k.calls;
       found = c.then_some.ensures ∙ ap (λ q. then_some q c.parity_of_rows-parity.result) c.ne.ensures
